@@ -1,0 +1,137 @@
+//! Document 01's trace index and listing, over the crate's `dlt_message`.
+
+use crate::filter;
+use crate::filtering::ProcessedDltFilterConfig;
+use crate::message::{bytes_before_pattern, places, STORAGE_HEADER};
+use crate::parse::{dlt_message, DltParseError, ParsedMessage};
+use crate::text::{expect, guarded, or_dash, used, Line};
+
+const LAST_POSITION: u128 = 4_294_967_295;
+const PATTERN: usize = 4;
+const LISTED_BYTES: usize = 65_536;
+const LISTED_ENTRIES: usize = 1024;
+
+pub struct Entry {
+    start: u64,
+    skipped: usize,
+    length: usize,
+    kind: &'static str,
+}
+
+/// What the message rule says at one place of the trace.
+enum Step {
+    Wait { need: usize },
+    Take { skipped: usize, length: usize, kind: &'static str },
+}
+
+fn step(bytes: &[u8], filter: Option<&ProcessedDltFilterConfig>) -> Result<Step, String> {
+    match guarded(|| dlt_message(bytes, filter, true))? {
+        Ok((_, ParsedMessage::Item(message))) => {
+            let declared = usize::from(message.header.overall_length());
+            expect(places(bytes, true)?.declared == declared, "the declared length")?;
+            whole_message(bytes, "item")
+        }
+        Ok((rest, ParsedMessage::FilteredOut(_))) => {
+            let places = places(bytes, true)?;
+            let end = places.skipped + STORAGE_HEADER + places.declared;
+            expect(used(bytes, rest)? == end, "a filtered message's end")?;
+            whole_message(bytes, "filtered")
+        }
+        Ok((_, ParsedMessage::Invalid)) => Err("oracle: the crate answered Invalid".to_string()),
+        Err(DltParseError::ParsingHickup(_)) => only_pattern(bytes, "hickup"),
+        Err(DltParseError::Unrecoverable(_)) => only_pattern(bytes, "unrecoverable"),
+        Err(DltParseError::IncompleteParse { needed }) => Ok(Step::Wait { need: needed.map_or(0, |n| n.get()) }),
+    }
+}
+
+fn whole_message(bytes: &[u8], kind: &'static str) -> Result<Step, String> {
+    let places = places(bytes, true)?;
+    Ok(Step::Take { skipped: places.skipped, length: STORAGE_HEADER + places.declared, kind })
+}
+
+fn only_pattern(bytes: &[u8], kind: &'static str) -> Result<Step, String> {
+    Ok(Step::Take { skipped: bytes_before_pattern(bytes)?, length: PATTERN, kind })
+}
+
+/// What a walk leaves: the new entries, the resume position, and the need unless the table was full.
+pub struct Walk {
+    pub entries: Vec<Entry>,
+    pub resume: u64,
+    need: Option<usize>,
+}
+
+fn walk(bytes: &[u8], resume: u64, room: usize, filter: Option<&ProcessedDltFilterConfig>) -> Result<Walk, String> {
+    let mut entries = Vec::new();
+    let mut at = 0;
+    loop {
+        let position = resume + at as u64;
+        match step(&bytes[at..], filter)? {
+            Step::Wait { need } => return Ok(Walk { entries, resume: position, need: Some(need) }),
+            Step::Take { .. } if entries.len() == room => return Ok(Walk { entries, resume: position, need: None }),
+            Step::Take { skipped, length, kind } => {
+                entries.push(Entry { start: position + skipped as u64, skipped, length, kind });
+                at += skipped + length;
+            }
+        }
+    }
+}
+
+/// The state that an index call is given and hands back.
+#[derive(Clone, Copy)]
+pub struct State {
+    pub resume: u64,
+    pub used: u64,
+}
+
+/// The answer's number, the state handed back, and the walk if there was one.
+pub fn call(table: usize, state: State, filter: &[u8], bytes: &[u8]) -> Result<(u8, State, Option<Walk>), String> {
+    let Some(filter) = filter::read(filter) else {
+        return Ok((1, state, None));
+    };
+    if state.used > table as u64 {
+        return Ok((5, state, None));
+    }
+    if u128::from(state.resume) + bytes.len() as u128 > LAST_POSITION {
+        return Ok((6, state, None));
+    }
+    let walk = walk(bytes, state.resume, table - state.used as usize, filter.as_ref())?;
+    let number = if walk.need.is_some() { 0 } else { 7 };
+    let after = State { resume: walk.resume, used: state.used + walk.entries.len() as u64 };
+    Ok((number, after, Some(walk)))
+}
+
+pub fn answer(table: usize, state: State, filter: &[u8], bytes: &[u8]) -> Line {
+    let (number, after, walk) = call(table, state, filter, bytes)?;
+    let need = walk.as_ref().and_then(|walk| walk.need);
+    let mut line = format!("{number} resume={} used={} need={}", after.resume, after.used, or_dash(need));
+    for entry in walk.iter().flat_map(|walk| &walk.entries) {
+        line.push_str(&format!(" ({} {} {} {})", entry.start, entry.skipped, entry.length, entry.kind));
+    }
+    Ok(line)
+}
+
+/// The listing program's output; `ends` stands between its lines.
+pub fn listing(bytes: &[u8], ends: &str) -> Line {
+    if bytes.len() > LISTED_BYTES {
+        return Ok("refused: over 65536".to_string());
+    }
+    lines_of_walk(bytes, LISTED_ENTRIES, ends)
+}
+
+/// The same lines for a trace of any length, with a table that is never full.
+pub fn whole_walk(bytes: &[u8]) -> Line {
+    lines_of_walk(bytes, usize::MAX, "\n")
+}
+
+fn lines_of_walk(bytes: &[u8], room: usize, ends: &str) -> Line {
+    let walk = walk(bytes, 0, room, None)?;
+    let mut lines = vec!["start skipped length kind".to_string()];
+    for entry in &walk.entries {
+        lines.push(format!("{} {} {} {}", entry.start, entry.skipped, entry.length, entry.kind));
+    }
+    lines.push(match walk.need {
+        Some(need) => format!("waits {} {need}", walk.resume),
+        None => format!("full {}", walk.resume),
+    });
+    Ok(lines.join(ends))
+}

@@ -1,0 +1,155 @@
+//! Making requests, the same ones for the same seed.
+//!
+//! Each kind has fixed sections, which try every small case near a boundary, and
+//! a maker of random requests for whatever is wanted beyond them.
+
+mod bad;
+mod build;
+mod fields;
+mod index;
+mod messages;
+mod random;
+mod signals;
+mod strings;
+
+use random::Rng;
+
+/// Takes one request line.
+pub type Emit<'a> = &'a mut dyn FnMut(&str);
+
+/// Makes every request of one section.
+type Section = fn(&mut Rng, Emit);
+
+pub struct Kind {
+    pub name: &'static str,
+    sections: &'static [Section],
+    random: fn(&mut Rng) -> String,
+}
+
+/// Every kind, in the order in which `all` goes through them.
+pub const KINDS: [Kind; 11] = [
+    Kind { name: "zts", sections: strings::SECTIONS, random: strings::random },
+    Kind { name: "fwd", sections: fields::FORWARD, random: fields::random_forward },
+    Kind { name: "skip", sections: fields::SKIP, random: fields::random_skip },
+    Kind { name: "consume", sections: fields::CONSUME, random: fields::random_consume },
+    Kind { name: "len", sections: fields::LENGTH, random: fields::random_length },
+    Kind { name: "mi", sections: fields::MESSAGE_INFO, random: fields::random_message_info },
+    Kind { name: "ti", sections: fields::TYPE_INFO, random: fields::random_type_info },
+    Kind { name: "args", sections: signals::SECTIONS, random: signals::random },
+    Kind { name: "msg", sections: messages::SECTIONS, random: messages::random },
+    Kind { name: "index", sections: index::SECTIONS, random: index::random },
+    Kind { name: "bad", sections: bad::SECTIONS, random: bad::random },
+];
+
+/// The kinds that a word names: one of them, or `all`.
+pub fn kinds(word: &str) -> Result<Vec<&'static Kind>, String> {
+    let named: Vec<&Kind> = KINDS.iter().filter(|kind| word == "all" || word == kind.name).collect();
+    if named.is_empty() {
+        let names: Vec<&str> = KINDS.iter().map(|kind| kind.name).collect();
+        return Err(format!("no kind {word}; there are {} and all", names.join(", ")));
+    }
+    Ok(named)
+}
+
+/// Random requests that are added to the fixed part when no count is asked for.
+const RANDOM_BY_DEFAULT: u64 = 20_000;
+
+impl Kind {
+    /// Makes `count` requests: an even sample of the fixed part if it is larger
+    /// than that, else all of it and random ones. With no count: the fixed part and some.
+    pub fn make(&self, count: Option<u64>, seed: u64, emit: Emit) {
+        let fixed = self.fixed_size(seed);
+        let count = count.unwrap_or(fixed + RANDOM_BY_DEFAULT);
+        let mut number = 0;
+        for section in 0..self.sections.len() {
+            self.run(section, seed, &mut |line| {
+                if is_sampled(number, fixed, count) {
+                    emit(line);
+                }
+                number += 1;
+            });
+        }
+        self.make_random(count.saturating_sub(fixed), seed, emit);
+    }
+
+    /// A short list: the same number from each section, and of random ones.
+    pub fn make_short(&self, count: u64, seed: u64, emit: Emit) {
+        let share = count / (self.sections.len() as u64 + 1);
+        for section in 0..self.sections.len() {
+            let size = self.section_size(section, seed);
+            let mut number = 0;
+            self.run(section, seed, &mut |line| {
+                if is_sampled(number, size, share) {
+                    emit(line);
+                }
+                number += 1;
+            });
+        }
+        self.make_random(share, seed, emit);
+    }
+
+    fn make_random(&self, count: u64, seed: u64, emit: Emit) {
+        let mut rng = self.rng(self.sections.len(), seed);
+        for _ in 0..count {
+            emit(&(self.random)(&mut rng));
+        }
+    }
+
+    fn run(&self, section: usize, seed: u64, emit: Emit) {
+        self.sections[section](&mut self.rng(section, seed), emit);
+    }
+
+    fn section_size(&self, section: usize, seed: u64) -> u64 {
+        let mut size = 0;
+        self.run(section, seed, &mut |_| size += 1);
+        size
+    }
+
+    fn fixed_size(&self, seed: u64) -> u64 {
+        (0..self.sections.len()).map(|section| self.section_size(section, seed)).sum()
+    }
+
+    /// Each section has numbers of its own, so that one can be changed without the others.
+    fn rng(&self, section: usize, seed: u64) -> Rng {
+        let name = self.name.bytes().fold(0, |n, b| n * 256 + u64::from(b));
+        Rng::new(seed ^ Rng::new(name).next() ^ Rng::new(section as u64).next())
+    }
+}
+
+/// True for `count` of the numbers below `size`, evenly spread; for all of them if they are fewer.
+fn is_sampled(number: u64, size: u64, count: u64) -> bool {
+    let rank = |n: u64| u128::from(n) * u128::from(count) / u128::from(size);
+    count >= size || rank(number + 1) > rank(number)
+}
+
+/// Bytes in hex, `-` for none.
+fn hex(bytes: &[u8]) -> String {
+    if bytes.is_empty() {
+        return "-".to_string();
+    }
+    let mut line = String::with_capacity(2 * bytes.len());
+    crate::text::push_hex(&mut line, bytes);
+    line
+}
+
+/// Every string of a length over an alphabet.
+fn every_string(alphabet: &[u8], length: usize, take: &mut dyn FnMut(&[u8])) {
+    let mut digits = vec![0; length];
+    let mut bytes = vec![alphabet[0]; length];
+    loop {
+        take(&bytes);
+        let Some(place) = (0..length).rev().find(|&place| digits[place] + 1 < alphabet.len()) else {
+            return;
+        };
+        digits[place] += 1;
+        digits[place + 1..].fill(0);
+        for (byte, &digit) in bytes.iter_mut().zip(&digits).skip(place) {
+            *byte = alphabet[digit];
+        }
+    }
+}
+
+/// Every beginning of some bytes, the empty one and the whole too.
+fn every_cut<'a>(bytes: &'a [u8]) -> impl Iterator<Item = &'a [u8]> + 'a {
+    (0..=bytes.len()).map(move |end| &bytes[..end])
+}
