@@ -3,7 +3,8 @@
 use crate::dlt::{MessageType, TypeInfo};
 use crate::index::{self, State};
 use crate::parse::{
-    dlt_consume_msg, dlt_zero_terminated_string, forward_to_next_storage_header, parse_length, skip_storage_header, DltParseError,
+    dlt_consume_msg, dlt_zero_terminated_string, forward_to_next_storage_header, parse_length, skip_storage_header,
+    DltParseError,
 };
 use crate::request::{self, Request};
 use crate::text::{guarded, or_dash, refusal, text, used, Line};

@@ -4,12 +4,19 @@
 //! in dlt-core's src/parse.rs, Apache-2.0) because the crate hands back no places.
 
 use crate::dlt::{
-    Argument, Endianness, FixedPoint, FixedPointValue, FloatWidth, StringCoding, TypeInfo, TypeInfoKind, TypeLength, Value,
+    Argument, Endianness, FixedPoint, FixedPointValue, FloatWidth, StringCoding, TypeInfo, TypeInfoKind, TypeLength,
+    Value,
 };
 use crate::parse::{construct_arguments, dlt_argument, DltParseError};
 use crate::text::{disagree, expect, guarded, refusal, text, used, Line};
 use byteorder::{BigEndian, LittleEndian};
 use std::convert::TryFrom;
+
+/// An argument that begins and ends at two places.
+type Ranged = ((usize, usize), Argument);
+
+/// What `construct_arguments` answers.
+type Signals<'a> = Result<(&'a [u8], Vec<Argument>), DltParseError>;
 
 /// Where the parts of an argument stand, as far as it has them.
 #[derive(Default)]
@@ -56,7 +63,9 @@ fn places_in_message(all: &[u8], big: bool, from: usize, info: &TypeInfo) -> Pla
     match info.kind {
         TypeInfoKind::Bool => after_name(all, big, at, info, 1),
         TypeInfoKind::StringType | TypeInfoKind::Raw => after_name(all, big, at + 2, info, size_at(all, big, at)),
-        TypeInfoKind::Signed(width) | TypeInfoKind::Unsigned(width) => after_both(all, big, at, info, 0, bytes_of(width)),
+        TypeInfoKind::Signed(width) | TypeInfoKind::Unsigned(width) => {
+            after_both(all, big, at, info, 0, bytes_of(width))
+        }
         TypeInfoKind::Float(width) => after_both(all, big, at, info, 0, bytes_of_float(width)),
         TypeInfoKind::SignedFixedPoint(width) | TypeInfoKind::UnsignedFixedPoint(width) => {
             after_both(all, big, at, info, 4 + bytes_of_float(width), bytes_of_float(width))
@@ -195,7 +204,7 @@ fn value(all: &[u8], big: bool, at: usize, value: &Value) -> Line {
 }
 
 /// Range and value of each of `count` arguments from `at` on, by the crate's own reader.
-fn read_each(all: &[u8], big: bool, at: usize, count: u8) -> Result<Vec<((usize, usize), Argument)>, String> {
+fn read_each(all: &[u8], big: bool, at: usize, count: u8) -> Result<Vec<Ranged>, String> {
     let mut from = at;
     let mut each = Vec::new();
     for _ in 0..count {
@@ -226,7 +235,13 @@ pub fn verbose(all: &[u8], big: bool, at: usize, count: u8, answered: &[Argument
 }
 
 /// `(FROM-TO)` and the raw values that the crate answered for a network trace.
-pub fn network_trace(all: &[u8], big: bool, at: usize, count: u8, answered: &[Vec<u8>]) -> Result<(usize, String), String> {
+pub fn network_trace(
+    all: &[u8],
+    big: bool,
+    at: usize,
+    count: u8,
+    answered: &[Vec<u8>],
+) -> Result<(usize, String), String> {
     let each = read_each(all, big, at, count)?;
     let end = each.last().map_or(at, |&((_, to), _)| to);
     let mut line = format!("T({at}-{end})");
@@ -245,7 +260,7 @@ pub fn network_trace(all: &[u8], big: bool, at: usize, count: u8, answered: &[Ve
     Ok((end, line))
 }
 
-fn signals<'a>(big: bool, infos: &[TypeInfo], data: &'a [u8]) -> Result<Result<(&'a [u8], Vec<Argument>), DltParseError>, String> {
+fn signals<'a>(big: bool, infos: &[TypeInfo], data: &'a [u8]) -> Result<Signals<'a>, String> {
     let order = if big { Endianness::Big } else { Endianness::Little };
     guarded(|| construct_arguments(order, infos, data))
 }

@@ -10,39 +10,45 @@ use std::process::{Command, Stdio};
 const BATCH_REQUESTS: usize = 50_000;
 const BATCH_BYTES: usize = 4_000_000;
 
-/// Prints the first request whose answers differ, and the count; true if none differ.
+/// Prints, for each kind, the first request whose answers differ, and the count; true if none differ.
 pub fn compare(kind: &str, count: &str, seed: &str, ours: &[&str]) -> Result<bool, String> {
     be_silent_in_panics();
-    let mut both = Both { ours, batch: String::new(), waiting: 0, requests: 0, differ: 0, problem: None };
-    make_each(kind, count, seed, &mut |line| both.add(line))?;
-    both.run_batch();
-    if let Some(problem) = both.problem {
-        println!("{problem}");
-        println!("{} requests, {} differ", both.requests, both.differ.max(1));
-        return Ok(false);
+    let kinds = kinds(kind)?;
+    let (mut requests, mut differ) = (0, 0);
+    for kind in &kinds {
+        let mut both = Both { ours, batch: String::new(), waiting: 0, requests: 0, differ: 0, problem: None };
+        kind.make(read_count(count)?, read_seed(seed)?, &mut |line| both.add(line));
+        both.finish();
+        if kinds.len() > 1 {
+            println!("{}: {} requests, {} differ", kind.name, both.requests, both.differ);
+        }
+        requests += both.requests;
+        differ += both.differ;
     }
-    println!("{} requests, {} differ", both.requests, both.differ);
-    Ok(both.differ == 0)
+    println!("{requests} requests, {differ} differ");
+    Ok(differ == 0)
 }
 
 /// Prints the requests alone.
 pub fn make(kind: &str, count: &str, seed: &str) -> Result<bool, String> {
     let mut output = BufWriter::new(std::io::stdout().lock());
     let mut failed = false;
-    make_each(kind, count, seed, &mut |line| failed |= writeln!(output, "{line}").is_err())?;
+    for kind in kinds(kind)? {
+        kind.make(read_count(count)?, read_seed(seed)?, &mut |line| failed |= writeln!(output, "{line}").is_err());
+    }
     Ok(!failed)
 }
 
-fn make_each(kind: &str, count: &str, seed: &str, emit: &mut dyn FnMut(&str)) -> Result<(), String> {
-    let count = match count {
-        "-" => None,
-        count => Some(count.parse().map_err(|_| format!("{count} is no count"))?),
-    };
-    let seed = seed.parse().map_err(|_| format!("{seed} is no seed"))?;
-    for kind in kinds(kind)? {
-        kind.make(count, seed, emit);
+/// `-` leaves the count to the kind.
+fn read_count(word: &str) -> Result<Option<u64>, String> {
+    if word == "-" {
+        return Ok(None);
     }
-    Ok(())
+    word.parse().map(Some).map_err(|_| format!("{word} is no count"))
+}
+
+fn read_seed(word: &str) -> Result<u64, String> {
+    word.parse().map_err(|_| format!("{word} is no seed"))
 }
 
 struct Both<'a> {
@@ -65,6 +71,15 @@ impl Both<'_> {
         self.batch.push_str(line);
         self.batch.push('\n');
         self.waiting += 1;
+    }
+
+    /// Runs what still waits. A problem with our side counts as a difference.
+    fn finish(&mut self) {
+        self.run_batch();
+        if let Some(problem) = &self.problem {
+            println!("{problem}");
+            self.differ = self.differ.max(1);
+        }
     }
 
     /// Asks our side and the crate, and compares line by line.

@@ -9,8 +9,11 @@ use std::path::Path;
 
 const SEED: u64 = 1;
 
-/// Requests of a kind beside the written ones, if there is room for them.
-const MOST_OF_A_KIND: u64 = 4_000;
+/// Requests of a kind beside the written and the tiny ones, if there is room for them.
+const MOST_OF_A_KIND: u64 = 2_500;
+
+/// Longer lines are left to `compare`.
+const LONGEST_LISTED: usize = 400;
 
 /// Both files together stay below this.
 const MOST_BYTES: usize = 600_000;
@@ -50,7 +53,7 @@ fn files(kinds: &[&Kind], written: &[(String, String)], count: u64) -> (String, 
     let mut answers = String::new();
     let mut seen = HashSet::new();
     let mut add = |line: &str| {
-        if seen.insert(line.to_string()) {
+        if line.len() <= LONGEST_LISTED && seen.insert(line.to_string()) {
             requests.push_str(line);
             requests.push('\n');
             answers.push_str(&answer(line.as_bytes()));

@@ -13,7 +13,7 @@ fn main() -> ExitCode {
         Ok(false) => ExitCode::from(1),
         Err(problem) => {
             eprintln!("oracle: {problem}");
-            ExitCode::from(2)
+            ExitCode::from(1)
         }
     }
 }

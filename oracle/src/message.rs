@@ -1,4 +1,7 @@
 //! The answer to `msg`: what `dlt_message` says, with the places of its texts.
+//!
+//! The layout of the headers is counted here once more (derived from the header readers
+//! in dlt-core's src/parse.rs, Apache-2.0) because the crate hands back no places.
 
 use crate::arguments::{label, network_trace, verbose};
 use crate::dlt::{Endianness, ExtendedHeader, Message, MessageType, PayloadContent};

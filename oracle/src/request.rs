@@ -28,19 +28,15 @@ pub fn read(line: &[u8]) -> Option<Request> {
     }
     let words: Vec<&[u8]> = line.split(|&b| b == b' ').collect();
     match words[..] {
-        [b"msg", storage, filter, bytes] => Some(Request::Message {
-            storage: bit(storage)?,
-            filter: hex(filter)?,
-            bytes: hex(bytes)?,
-        }),
+        [b"msg", storage, filter, bytes] => {
+            Some(Request::Message { storage: bit(storage)?, filter: hex(filter)?, bytes: hex(bytes)? })
+        }
         [b"zts", size, bytes] => Some(Request::ZeroTerminated { size: decimal(size)?, bytes: hex(bytes)? }),
         [b"skip", bytes] => Some(Request::Skip { bytes: hex(bytes)? }),
         [b"consume", bytes] => Some(Request::Consume { bytes: hex(bytes)? }),
-        [b"args", order, words, bytes] => Some(Request::Arguments {
-            big: is_big(order)?,
-            words: hex_words(words)?,
-            bytes: hex(bytes)?,
-        }),
+        [b"args", order, words, bytes] => {
+            Some(Request::Arguments { big: is_big(order)?, words: hex_words(words)?, bytes: hex(bytes)? })
+        }
         [b"fwd", bytes] => Some(Request::Forward { bytes: hex(bytes)? }),
         [b"len", bytes] => Some(Request::Length { bytes: hex(bytes)? }),
         [b"index", table, resume, used, filter, bytes] => Some(Request::Index {

@@ -4,11 +4,11 @@ ghost use mathlib.Core.Path.{_≡_};
 ghost use mathlib.Core.Bool.{true};
 ghost use Rattle.wire.specs.Number.{numeric};
 ghost use Rattle.signed.specs.Twos.{twos, signed, signedHalves, i8Ans, i16Ans, i32Ans, i64Ans, i128Ans};
-use wire::U128Ans;
+use wire::U8Ans;
 use wire::U16Ans;
 use wire::U32Ans;
 use wire::U64Ans;
-use wire::U8Ans;
+use wire::U128Ans;
 
 pub struct GotI8 {
     pub v: i8,

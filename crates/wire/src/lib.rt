@@ -165,10 +165,7 @@ pub fn parse_u64(s: &[u8], at: usize, big: bool) -> U64Ans
         return U64Ans::Need(8 - rest);
     }
     let v = number_of(s, at, 8, big);
-    U64Ans::Done(GotU64 {
-        v: v,
-        next: at + 8,
-    })
+    U64Ans::Done(GotU64 { v: v, next: at + 8 })
 }
 
 // Sixteen bytes as one number, in two halves: the first eight bytes are the high half where the order is big-endian.

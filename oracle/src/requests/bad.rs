@@ -3,17 +3,74 @@
 use super::random::Rng;
 use super::{Emit, Section, KINDS};
 
+pub const TINY: &[Section] = &[written];
 pub const SECTIONS: &[Section] = &[written, spoilt_examples];
 
 /// Lines at the edges of the rule in README.md.
 const WRITTEN: [&str; 63] = [
-    "", " ", "-", "zts", "zts ", "zts 1", "zts 1 ", "zts  1 41", "zts 1  41", " zts 1 41", "zts 1 41 ", "zts 1 41 41", "ZTS 1 41", "zt 1 41",
-    "ztss 1 41", "zts\t1 41", "zts 1 4", "zts 1 414", "zts 1 4g", "zts 1 --", "zts 1 -41", "zts - 41", "zts -1 41", "zts +1 41", "zts 0x1 41",
-    "zts 1a 41", "zts 18446744073709551615 41", "zts 18446744073709551616 41", "zts 99999999999999999999 41", "zts 00000000000000000001 41",
-    "zts 000000000000000000001 41", "zts 1 Ff", "zts 1 41\r", "> zts 1 41", "# zts 1 41", "msg 0 -", "msg 2 - 20", "msg 00 - 20", "msg - - 20",
-    "msg 0 20", "msg 1 0 20", "skip", "skip -", "skip - -", "consume", "fwd", "fwd 4", "len 0 0", "args X 10 01", "args LL 10 01",
-    "args L 10, 01", "args L ,10 01", "args L 123456789 01", "args L -,10 01", "args b 00000010 01", "index 4097 0 0 - -", "index 04096 0 0 - -",
-    "index 1 0 0 -", "mi 1", "mi 123", "mi 4G", "ti", "ti 000000010",
+    "",
+    " ",
+    "-",
+    "zts",
+    "zts ",
+    "zts 1",
+    "zts 1 ",
+    "zts  1 41",
+    "zts 1  41",
+    " zts 1 41",
+    "zts 1 41 ",
+    "zts 1 41 41",
+    "ZTS 1 41",
+    "zt 1 41",
+    "ztss 1 41",
+    "zts\t1 41",
+    "zts 1 4",
+    "zts 1 414",
+    "zts 1 4g",
+    "zts 1 --",
+    "zts 1 -41",
+    "zts - 41",
+    "zts -1 41",
+    "zts +1 41",
+    "zts 0x1 41",
+    "zts 1a 41",
+    "zts 18446744073709551615 41",
+    "zts 18446744073709551616 41",
+    "zts 99999999999999999999 41",
+    "zts 00000000000000000001 41",
+    "zts 000000000000000000001 41",
+    "zts 1 Ff",
+    "zts 1 41\r",
+    "> zts 1 41",
+    "# zts 1 41",
+    "msg 0 -",
+    "msg 2 - 20",
+    "msg 00 - 20",
+    "msg - - 20",
+    "msg 0 20",
+    "msg 1 0 20",
+    "skip",
+    "skip -",
+    "skip - -",
+    "consume",
+    "fwd",
+    "fwd 4",
+    "len 0 0",
+    "args X 10 01",
+    "args LL 10 01",
+    "args L 10, 01",
+    "args L ,10 01",
+    "args L 123456789 01",
+    "args L -,10 01",
+    "args b 00000010 01",
+    "index 4097 0 0 - -",
+    "index 04096 0 0 - -",
+    "index 1 0 0 -",
+    "mi 1",
+    "mi 123",
+    "mi 4G",
+    "ti",
+    "ti 000000010",
 ];
 
 fn written(_: &mut Rng, emit: Emit) {
@@ -24,7 +81,18 @@ fn written(_: &mut Rng, emit: Emit) {
 
 /// A sound request of each kind with each byte taken away, doubled and replaced.
 fn spoilt_examples(_: &mut Rng, emit: Emit) {
-    for line in ["msg 0 - 20070003", "zts 2 c328", "skip 44", "consume 44", "args l 200 0200c3", "fwd 44", "len 00", "index 1 0 0 - 44", "mi 41", "ti 10"] {
+    for line in [
+        "msg 0 - 20070003",
+        "zts 2 c328",
+        "skip 44",
+        "consume 44",
+        "args l 200 0200c3",
+        "fwd 44",
+        "len 00",
+        "index 1 0 0 - 44",
+        "mi 41",
+        "ti 10",
+    ] {
         for place in 0..line.len() {
             let (before, rest) = line.split_at(place);
             emit(&format!("{before}{}", &rest[1..]));

@@ -1,13 +1,19 @@
 //! Requests for the small functions: the pattern's search, skip, consume, the
 //! length, message info and type info.
 
-use super::build::{damage, headers, junk, storage_header, stored_message, PATTERN};
+use super::build::{damage, every_word, headers, junk, storage_header, stored_message, PATTERN};
 use super::random::Rng;
 use super::{every_cut, every_string, hex, Emit, Section};
 
 const NEAR_PATTERN: [u8; 6] = [0x44, 0x4c, 0x54, 0x01, 0x00, 0xff];
 
-pub const FORWARD: &[Section] = &[forward_short, forward_places, forward_misses];
+pub const FORWARD_TINY: &[Section] = &[|_, emit| pattern_strings("fwd", emit)];
+pub const SKIP_TINY: &[Section] = &[|_, emit| pattern_strings("skip", emit), skip_cuts];
+pub const CONSUME_TINY: &[Section] = &[|_, emit| pattern_strings("consume", emit)];
+pub const LENGTH_TINY: &[Section] = &[];
+pub const TYPE_INFO_TINY: &[Section] = &[type_info_kinds];
+
+pub const FORWARD: &[Section] = &[forward_short, forward_places, forward_misses, forward_far];
 pub const SKIP: &[Section] = &[skip_short, skip_cuts, skip_misses];
 pub const CONSUME: &[Section] = &[consume_short, consume_cuts, consume_lengths, consume_misses];
 pub const LENGTH: &[Section] = &[length_cuts, length_all];
@@ -21,6 +27,13 @@ fn one(word: &str, bytes: &[u8]) -> String {
 fn short_strings(word: &str, longest: usize, emit: Emit) {
     for length in 0..=longest {
         every_string(&NEAR_PATTERN, length, &mut |bytes| emit(&one(word, bytes)));
+    }
+}
+
+/// Up to four bytes of the pattern in any order.
+fn pattern_strings(word: &str, emit: Emit) {
+    for length in 0..=4 {
+        every_string(&PATTERN, length, &mut |bytes| emit(&one(word, bytes)));
     }
 }
 
@@ -59,6 +72,16 @@ fn forward_misses(_: &mut Rng, emit: Emit) {
         emit(&one("fwd", bytes));
         emit(&one("fwd", &[bytes, &PATTERN].concat()));
     });
+}
+
+/// The pattern far on, or not at all.
+fn forward_far(_: &mut Rng, emit: Emit) {
+    for before in [65_535, 65_536, 140_000] {
+        let mut bytes = vec![0x44; before];
+        emit(&one("fwd", &bytes));
+        bytes.extend(PATTERN);
+        emit(&one("fwd", &bytes));
+    }
 }
 
 pub fn random_forward(rng: &mut Rng) -> String {
@@ -169,6 +192,10 @@ fn message_info_all(_: &mut Rng, emit: Emit) {
 
 pub fn random_message_info(rng: &mut Rng) -> String {
     format!("mi {:02X}", rng.byte())
+}
+
+fn type_info_kinds(_: &mut Rng, emit: Emit) {
+    every_word(&mut |word| emit(&format!("ti {word:x}")));
 }
 
 /// Every combination of the bits that decide.

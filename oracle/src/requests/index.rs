@@ -5,7 +5,8 @@ use super::random::Rng;
 use super::{hex, Emit, Section};
 use crate::index::{call, State};
 
-pub const SECTIONS: &[Section] = &[tables, cuts, carried_on, refusals];
+pub const TINY: &[Section] = &[];
+pub const SECTIONS: &[Section] = &[tables, cuts, carried_on, refusals, long_traces];
 
 const FRESH: State = State { resume: 0, used: 0 };
 
@@ -83,13 +84,28 @@ fn refusals(rng: &mut Rng, emit: Emit) {
     for _ in 0..12 {
         let trace = trace(rng, 3);
         let length = trace.len() as u64;
-        let near_last = [LAST - length - 1, LAST - length, LAST - length + 1, LAST, LAST + 1, u64::MAX, u64::MAX - length, 0];
+        let near_last =
+            [LAST - length - 1, LAST - length, LAST - length + 1, LAST, LAST + 1, u64::MAX, u64::MAX - length, 0];
         for resume in near_last {
             for used in [0, 1, 2, 3, u64::MAX] {
                 for filter in [&[][..], &[0], &[1, 0, 1, 7], &[1, 0, 1, 2]] {
                     emit(&request(2, State { resume, used }, filter, &trace));
                 }
             }
+        }
+    }
+}
+
+/// Thousands of bare patterns and short messages, more and fewer than the table holds.
+fn long_traces(_: &mut Rng, emit: Emit) {
+    let hickup = [&PATTERN[..], &[0; 12], &[0x20, 0, 0, 3]].concat();
+    let unrecoverable = [&PATTERN[..], &[0; 12], &[0x20, 0, 0, 4]].concat();
+    let item = [&PATTERN[..], &[0; 12], &[0x20, 0, 0, 8, 1, 2, 3, 4]].concat();
+    for piece in [hickup, unrecoverable, item] {
+        let trace = piece.repeat(4100);
+        for table in [0, 1, 4095, 4096] {
+            emit(&request(table, FRESH, &[], &trace));
+            emit(&request(table, FRESH, &[], &trace[..table * piece.len()]));
         }
     }
 }

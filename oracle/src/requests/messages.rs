@@ -1,13 +1,14 @@
 //! Requests for `dlt_message`.
 
 use super::build::{
-    argument, damage, declare, every_word, filter, filter_field, filter_or_none, headers, junk, message, message_with, number, storage_header,
-    stored_message, FLOATS32, FLOATS64, GOOD_KINDS, IDS,
+    argument, damage, declare, every_word, filter, filter_field, filter_or_none, headers, junk, message, message_with,
+    number, storage_header, stored_message, FLOATS32, FLOATS64, GOOD_KINDS, IDS,
 };
 use super::random::Rng;
 use super::strings::BOUNDARY;
 use super::{every_cut, every_string, hex, Emit, Section};
 
+pub const TINY: &[Section] = &[every_argument_kind];
 pub const SECTIONS: &[Section] = &[
     every_flag_cut,
     every_message_info,
@@ -22,6 +23,7 @@ pub const SECTIONS: &[Section] = &[
     good_filters,
     bad_filters,
     levels,
+    long_messages,
 ];
 
 fn request(storage: bool, filter: &[u8], bytes: &[u8]) -> String {
@@ -52,7 +54,8 @@ fn every_message_info(rng: &mut Rng, emit: Emit) {
     for info in 0..=255 {
         for payload in 0..6 {
             for count in 0..2 {
-                let mut bytes = headers(rng, 0x21 | payload as u8 % 2 * 2, info, count, payload);
+                let flags = if payload % 2 == 0 { 0x21 } else { 0x23 };
+                let mut bytes = headers(rng, flags, info, count, payload);
                 bytes.extend(&[0x10, 0, 0, 0, 1, 0][..payload]);
                 emit(&plain(&bytes));
             }
@@ -245,6 +248,26 @@ fn levels(rng: &mut Rng, emit: Emit) {
         for info in 0..=255 {
             let message = message_with(rng, 0x21, info, &[]);
             emit(&request(false, &filter_field(1, &[level]), &message));
+        }
+    }
+}
+
+/// The longest messages that can be declared, whole and a byte short.
+fn long_messages(rng: &mut Rng, emit: Emit) {
+    for (flags, info) in [(0x20, 0), (0x22, 0), (0x21, 0x16), (0x3d, 0x40)] {
+        let mut bytes = headers(rng, flags, info, 0, 0);
+        bytes.resize(65_535, 0x41);
+        declare(&mut bytes, 65_535);
+        emit(&plain(&bytes));
+        emit(&plain(&bytes[..65_534]));
+        emit(&request(false, &filter_field(1, &[1]), &bytes));
+    }
+    for word in [0x200, 0x400] {
+        for length in [65_534, 65_535] {
+            let argument = [number(word, 4, true), number(65_535, 2, true), vec![0x41; length]].concat();
+            let mut bytes = headers(rng, 0x23, 0x41, 1, 0);
+            bytes.extend(argument);
+            emit(&plain(&bytes));
         }
     }
 }

@@ -1,7 +1,8 @@
 //! Making requests, the same ones for the same seed.
 //!
 //! Each kind has fixed sections, which try every small case near a boundary, and
-//! a maker of random requests for whatever is wanted beyond them.
+//! a maker of random requests for whatever is wanted beyond them. Its tiny sections
+//! are the few cases that even the shortest list must have.
 
 mod bad;
 mod build;
@@ -22,23 +23,29 @@ type Section = fn(&mut Rng, Emit);
 
 pub struct Kind {
     pub name: &'static str,
+    tiny: &'static [Section],
     sections: &'static [Section],
     random: fn(&mut Rng) -> String,
 }
 
 /// Every kind, in the order in which `all` goes through them.
 pub const KINDS: [Kind; 11] = [
-    Kind { name: "zts", sections: strings::SECTIONS, random: strings::random },
-    Kind { name: "fwd", sections: fields::FORWARD, random: fields::random_forward },
-    Kind { name: "skip", sections: fields::SKIP, random: fields::random_skip },
-    Kind { name: "consume", sections: fields::CONSUME, random: fields::random_consume },
-    Kind { name: "len", sections: fields::LENGTH, random: fields::random_length },
-    Kind { name: "mi", sections: fields::MESSAGE_INFO, random: fields::random_message_info },
-    Kind { name: "ti", sections: fields::TYPE_INFO, random: fields::random_type_info },
-    Kind { name: "args", sections: signals::SECTIONS, random: signals::random },
-    Kind { name: "msg", sections: messages::SECTIONS, random: messages::random },
-    Kind { name: "index", sections: index::SECTIONS, random: index::random },
-    Kind { name: "bad", sections: bad::SECTIONS, random: bad::random },
+    Kind { name: "zts", tiny: strings::TINY, sections: strings::SECTIONS, random: strings::random },
+    Kind { name: "fwd", tiny: fields::FORWARD_TINY, sections: fields::FORWARD, random: fields::random_forward },
+    Kind { name: "skip", tiny: fields::SKIP_TINY, sections: fields::SKIP, random: fields::random_skip },
+    Kind { name: "consume", tiny: fields::CONSUME_TINY, sections: fields::CONSUME, random: fields::random_consume },
+    Kind { name: "len", tiny: fields::LENGTH_TINY, sections: fields::LENGTH, random: fields::random_length },
+    Kind {
+        name: "mi",
+        tiny: fields::MESSAGE_INFO,
+        sections: fields::MESSAGE_INFO,
+        random: fields::random_message_info,
+    },
+    Kind { name: "ti", tiny: fields::TYPE_INFO_TINY, sections: fields::TYPE_INFO, random: fields::random_type_info },
+    Kind { name: "args", tiny: signals::TINY, sections: signals::SECTIONS, random: signals::random },
+    Kind { name: "msg", tiny: messages::TINY, sections: messages::SECTIONS, random: messages::random },
+    Kind { name: "index", tiny: index::TINY, sections: index::SECTIONS, random: index::random },
+    Kind { name: "bad", tiny: bad::TINY, sections: bad::SECTIONS, random: bad::random },
 ];
 
 /// The kinds that a word names: one of them, or `all`.
@@ -72,8 +79,12 @@ impl Kind {
         self.make_random(count.saturating_sub(fixed), seed, emit);
     }
 
-    /// A short list: the same number from each section, and of random ones.
+    /// A short list: the tiny sections, then `count` more, the same number from
+    /// each section and of random ones.
     pub fn make_short(&self, count: u64, seed: u64, emit: Emit) {
+        for section in self.tiny {
+            section(&mut Rng::new(seed), emit);
+        }
         let share = count / (self.sections.len() as u64 + 1);
         for section in 0..self.sections.len() {
             let size = self.section_size(section, seed);
@@ -130,6 +141,16 @@ fn hex(bytes: &[u8]) -> String {
     let mut line = String::with_capacity(2 * bytes.len());
     crate::text::push_hex(&mut line, bytes);
     line
+}
+
+/// The same in upper or lower case.
+fn hex_of_either_case(rng: &mut Rng, bytes: &[u8]) -> String {
+    let digits = hex(bytes);
+    if rng.one_in(6) {
+        digits.to_uppercase()
+    } else {
+        digits
+    }
 }
 
 /// Every string of a length over an alphabet.

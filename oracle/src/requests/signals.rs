@@ -1,11 +1,13 @@
 //! Requests for `construct_arguments`.
 
-use super::build::{damage, every_word, number, random_word, text_bytes, FLOATS32, FLOATS64};
+use super::build::{damage, every_word, number, random_word, text_bytes, FLOATS32, FLOATS64, GOOD_KINDS};
 use super::random::Rng;
 use super::strings::BOUNDARY;
 use super::{every_string, hex, Emit, Section};
 
-pub const SECTIONS: &[Section] = &[every_kind, every_short_data, floats, short_strings, long_strings, sizes, two_words, bad_word_later];
+pub const TINY: &[Section] = &[good_kinds];
+pub const SECTIONS: &[Section] =
+    &[every_kind, every_short_data, floats, short_strings, long_strings, sizes, two_words, bad_word_later];
 
 fn request(big: bool, words: &[u32], data: &[u8]) -> String {
     let order = if big { "B" } else { "L" };
@@ -14,11 +16,24 @@ fn request(big: bool, words: &[u32], data: &[u8]) -> String {
     format!("args {order} {words} {}", hex(data))
 }
 
+/// Each kind that passes, with data that suits it, one byte less and one more.
+fn good_kinds(rng: &mut Rng, emit: Emit) {
+    for word in GOOD_KINDS {
+        for big in [false, true] {
+            let mut data = signal(rng, word, big);
+            emit(&request(big, &[word], &data));
+            emit(&request(big, &[word], &data[1..]));
+            data.push(0);
+            emit(&request(big, &[word], &data));
+        }
+    }
+}
+
 /// Every word with data of each length around the widths.
 fn every_kind(rng: &mut Rng, emit: Emit) {
     every_word(&mut |word| {
         for big in [false, true] {
-            for length in [0, 1, 2, 3, 4, 5, 7, 8, 9, 15, 16, 17] {
+            for length in 0..=17 {
                 emit(&request(big, &[word], &rng.bytes(length)));
             }
         }
@@ -127,7 +142,9 @@ fn bad_word_later(rng: &mut Rng, emit: Emit) {
     for bad in [0, 0x30, 0x100, 0x300, 0x20, 0x46, 0x81, 0x85, 0x1021, 0x1025, 0x700, 0xffff_ffff] {
         for length in 0..6 {
             let data = rng.bytes(length);
-            for words in [&[bad][..], &[bad, 0x43], &[0x43, bad], &[0x43, bad, 0x10], &[0x10, 0x42, bad], &[0x1023, bad]] {
+            for words in
+                [&[bad][..], &[bad, 0x43], &[0x43, bad], &[0x43, bad, 0x10], &[0x10, 0x42, bad], &[0x1023, bad]]
+            {
                 emit(&request(false, words, &data));
             }
         }
@@ -164,5 +181,9 @@ pub fn random(rng: &mut Rng) -> String {
     if rng.one_in(3) {
         damage(rng, &mut data);
     }
-    request(big, &words, &data)
+    let line = request(big, &words, &data);
+    if rng.one_in(6) {
+        return line.to_lowercase();
+    }
+    line
 }

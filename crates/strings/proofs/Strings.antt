@@ -1,0 +1,116 @@
+-- Strings: the law of the rule, what the search for a zero byte needs, and the answers of the functions.
+use Prim.Native.Nat.{ℕ, zero, suc, _+_, _-_, _*_, _≤_, _<_, zero-le}
+use native.Mathlib.Omega.{arith}
+use native.Mathlib.Nat.{add-zero, zero-add, sub-zero, sub-self, not-suc-le-zero}
+use mathlib.Core.Path.{_≡_, refl, sym, ap, ap₂, _∙_, subst}
+use mathlib.Core.Bool.{Bool, true, false}
+use mathlib.Core.List.{List, _++_}
+use lib.ListN.{length, getD, List·getD-append}
+use lib.Dec.{leb, ltb, eqb}
+use borrow.Author.Tests.{le-leb, lt-leb, lt-ltb, le-ltb, eq-eqb, ne-eqb}
+use Rattle.wire.specs.Answer.{Ans, Parser}
+use Rattle.wire.specs.Answer.Ans.{done, need}
+use Rattle.wire.specs.Parser.{asking, pick, lacking}
+use Rattle.wire.specs.Lawful.{Lawful, Reads}
+use Rattle.wire.specs.Run.{range}
+use Rattle.wire.proofs.Laws.{sized-law}
+use Rattle.wire.proofs.Step.{asking-done, asking-need}
+use Rattle.strings.specs.Utf8.{validUpTo, least}
+use Rattle.strings.specs.Text.{before0, textNeed, textOf, text, identified}
+use Rattle.strings.proofs.Utf8.{validUpTo-same}
+
+-- ---- the law
+before0-same : (n : ℕ) (s t : List ℕ) (at : ℕ) → at + n ≤ length s → before0 n (s ++ t) at ≡ before0 n s at
+before0-same zero s t at h = refl
+before0-same (suc n) s t at h =
+    rw (List·getD-append s t 0 at (omega arith), before0-same n s t (suc at) (omega arith))
+
+before0-le : (n : ℕ) (s : List ℕ) (at : ℕ) → before0 n s at ≤ n
+before0-le zero s at = zero-le
+before0-le (suc n) s at = by (eqb (getD s at 0) 0) (before0-le n s (suc at))
+  where
+    by : (t : Bool) {k : ℕ} → k ≤ n → pick t 0 (suc k) ≤ suc n
+    by true h = zero-le
+    by false h = omega arith
+
+textOf-same : (n : ℕ) → Reads n (textOf n)
+unfolding textOf
+textOf-same n =
+    record {
+      same = λ s t at h.
+          let l : before0 n s at ≤ n = before0-le n s at in
+          ap (range at) (ap (λ (k : ℕ). validUpTo k (s ++ t) at) (before0-same n s t at h) ∙ validUpTo-same (before0 n s at) s t at (omega arith));
+    }
+
+text-need-small : (n : ℕ) (s : List ℕ) (at : ℕ) → length s - at < n → textNeed n s at ≤ lacking n s at
+text-need-small n s at h = by (ltb (before0 (length s - at) s at) (length s - at))
+  where
+    by : (b : Bool) → pick b (n - (length s - at)) 1 ≤ n - (length s - at)
+    by true = omega arith
+    by false = omega arith
+
+pub text-law : (n : ℕ) → Lawful (text n)
+unfolding text
+text-law n = sized-law n (textNeed n) (textOf n) (text-need-small n) (textOf-same n)
+
+pub identified-law : Lawful identified
+unfolding identified
+identified-law = text-law 4
+
+-- ---- the search, at the code's numbers
+found : (m : ℕ) (s : List ℕ) (at : ℕ) → 0 < m → getD s at 0 ≡ 0 → before0 m s at ≡ 0
+found zero s at h e = absurd (not-suc-le-zero h)
+found (suc m) s at h e = rw (eq-eqb _ _ e)
+
+passed : (m : ℕ) (s : List ℕ) (at : ℕ) → 0 < m → (getD s at 0 ≡ 0 → ⊥) → before0 m s at ≡ suc (before0 (m - 1) s (at + 1))
+passed zero s at h e = absurd (not-suc-le-zero h)
+passed (suc m) s at h e =
+    let a : suc at ≡ at + 1 = omega arith in
+    let b : m ≡ suc m - 1 = omega arith in
+    rw (ne-eqb _ _ e) (ap suc (ap₂ (λ (i j : ℕ). before0 i s j) b a))
+
+-- k bytes were passed, and none of them is zero
+abbrev pub Passed : List ℕ → ℕ → ℕ → ℕ → Type 0
+Passed s at n k = (k ≤ n) × (before0 n s at ≡ k + before0 (n - k) s (at + k))
+
+module _ (s : List ℕ) (at n : ℕ) where
+  pub passed-none : Passed s at n 0
+  passed-none = (zero-le, rw (sub-zero, add-zero, zero-add))
+
+  pub passed-more : (k : ℕ) → k < n → (getD s (at + k) 0 ≡ 0 → ⊥) → Passed s at n k → Passed s at n (k + 1)
+  passed-more k l e h =
+      let a : at + k + 1 ≡ at + (k + 1) = omega arith in
+      let b : n - k - 1 ≡ n - (k + 1) = omega arith in
+      let p : before0 (n - k) s (at + k) ≡ suc (before0 (n - (k + 1)) s (at + (k + 1))) = passed (n - k) s (at + k) (omega arith) e ∙ ap suc (ap₂ (λ (i j : ℕ). before0 i s j) b a) in
+      (omega arith, omega (arith, h .1, p))
+
+  pub passed-found : (k : ℕ) → k < n → getD s (at + k) 0 ≡ 0 → Passed s at n k → k ≡ before0 n s at
+  passed-found k l e h = omega (arith, h .1, found (n - k) s (at + k) (omega arith) e)
+
+  pub passed-all : (k : ℕ) → n ≤ k → Passed s at n k → n ≡ before0 n s at
+  passed-all k l h =
+      let z : n - k ≡ 0 = omega arith in
+      omega (arith, h .1, ap (λ (i : ℕ). before0 i s (at + k)) z)
+
+-- ---- the answers, as the code has them: l is what is left, z what `before_zero` found, and v what `valid_up_to` found
+module _ (n : ℕ) (s : List ℕ) (at l : ℕ) (is-left : l ≡ length s - at) where
+  pub text-done : (z v : ℕ) → z ≡ before0 n s at → v ≡ validUpTo (least z (length s - at)) s at → n ≤ l → done (range at v) (at + n) ≡ text n s at
+  unfolding text textOf
+  text-done z v e f h =
+      let k : z ≤ n = rw e (before0-le n s at) in
+      let g : v ≡ validUpTo (before0 n s at) s at = rw (le-leb z (length s - at) (omega arith), e) at f in
+      sym (asking-done n _ _ s at (omega arith) ∙ ap (λ (k : ℕ). done (range at k) (at + n)) (sym g))
+
+  pub text-more : (z : ℕ) → z ≡ before0 l s at → z < l → l < n → need (n - l) ≡ text n s at
+  unfolding text
+  text-more z e f h =
+      let e′ : z ≡ before0 (length s - at) s at = rw (← is-left) e in
+      rw is-left (sym (asking-need n _ _ s at (omega arith) ∙ rw (lt-ltb (before0 (length s - at) s at) (length s - at) (omega arith))))
+
+  pub text-one : (z : ℕ) → z ≡ before0 l s at → l ≤ z → l < n → need 1 ≡ text n s at
+  unfolding text
+  text-one z e f h =
+      let e′ : z ≡ before0 (length s - at) s at = rw (← is-left) e in
+      sym (asking-need n _ _ s at (omega arith) ∙ rw (le-ltb (before0 (length s - at) s at) (length s - at) (omega arith)))
+
+pub ruleset texts = (text-done, text-more, text-one)

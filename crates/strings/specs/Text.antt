@@ -1,0 +1,32 @@
+-- Strings of a size: document 01, "Strings" and "Needs".
+use Prim.Native.Nat.{ℕ, zero, suc, _+_, _-_}
+use mathlib.Core.List.{List}
+use lib.ListN.{length, getD}
+use lib.Dec.{ltb, eqb}
+use Rattle.wire.specs.Answer.{Ans, Parser}
+use Rattle.wire.specs.Answer.Ans.{done}
+use Rattle.wire.specs.Parser.{asking, pick}
+use Rattle.wire.specs.Run.{range}
+use Rattle.wire.specs.declared.Range.{Range}
+use Rattle.strings.specs.Utf8.{validUpTo}
+
+-- the content stops before the first zero byte or at the size: how many of the n bytes from a position it has
+abbrev pub before0 : ℕ → List ℕ → ℕ → ℕ
+before0 zero s at = 0
+before0 (suc n) s at = pick (eqb (getD s at 0) 0) 0 (suc (before0 n s (suc at)))
+
+-- the value is the content's longest valid UTF-8 prefix
+unfoldable pub textOf : ℕ → List ℕ → ℕ → Range
+textOf n s at = range at (validUpTo (before0 n s at) s at)
+
+-- a string of size n with fewer than n bytes left needs 1 if no zero byte is among them, else n less what is left
+abbrev pub textNeed : ℕ → List ℕ → ℕ → ℕ
+textNeed n s at = pick (ltb (before0 (length s - at) s at) (length s - at)) (n - (length s - at)) 1
+
+-- a string of size n; the size is used up all the same
+unfoldable pub text : ℕ → Parser Range
+text n = asking n (textNeed n) (λ s at. done (textOf n s at) (at + n))
+
+-- an identifier is one of size 4
+unfoldable pub identified : Parser Range
+identified = text 4

@@ -1,0 +1,183 @@
+// Strings of a size, as ranges of the caller's bytes: port of `dlt_zero_terminated_string`, `dlt_zero_terminated_string_intern` and
+// `parse_ecu_id` in parse.rs of dlt-core 0.20.2 (Apache-2.0, NOTICE). `str::from_utf8` and its `valid_up_to` are written out by the
+// Unicode standard's table. Only the size's bytes are looked at.
+ghost use mathlib.Core.Path.{_≡_};
+ghost use mathlib.Core.List.{[], _∷_};
+ghost use Prim.Native.Nat.{_+_, _-_, _≤_, _<_};
+ghost use lib.ListN.{length, getD};
+ghost use Rattle.wire.specs.Run.{rangeAns};
+ghost use Rattle.strings.specs.Utf8.{span, tail, inside, formed, sequence, least, validUpTo};
+ghost use Rattle.strings.specs.Text.{before0, text, identified};
+use wire::GotRange;
+use wire::Range;
+use wire::RangeAns;
+
+// Whether the byte at `at` is from `low` to `high`.
+fn stands(s: &[u8], at: usize, low: u8, high: u8) -> bool
+    requires { ⌜ at < length (now s) ⌝ }
+    ensures { λ r. ⌜ r ≡ inside (span low high) (getD (now (s .entry)) at 0) ⌝ }
+{
+    low <= s[at] && s[at] <= high
+}
+
+// A lead byte with one byte behind it.
+fn two_bytes(s: &[u8], at: usize, n: usize) -> usize
+    requires { ⌜ n ≤ length (now s) - at ⌝ }
+    ensures { λ r. ⌜ r ≡ formed (tail ∷ []) n (now (s .entry)) at ⌝ }
+{
+    if n < 2 {
+        return 0;
+    }
+    if stands(s, at + 1, 0x80, 0xBF) { 2 } else { 0 }
+}
+
+// A lead byte with two bytes behind it, the first of them from `low` to `high`.
+fn three_bytes(s: &[u8], at: usize, n: usize, low: u8, high: u8) -> usize
+    requires { ⌜ n ≤ length (now s) - at ⌝ }
+    ensures { λ r. ⌜ r ≡ formed (span low high ∷ tail ∷ []) n (now (s .entry)) at ⌝ }
+{
+    if n < 3 {
+        return 0;
+    }
+    let second = stands(s, at + 1, low, high);
+    let third = stands(s, at + 2, 0x80, 0xBF);
+    if second {
+        if third {
+            return 3;
+        }
+    }
+    0
+}
+
+// A lead byte with three bytes behind it, the first of them from `low` to `high`.
+fn four_bytes(s: &[u8], at: usize, n: usize, low: u8, high: u8) -> usize
+    requires { ⌜ n ≤ length (now s) - at ⌝ }
+    ensures { λ r. ⌜ r ≡ formed (span low high ∷ tail ∷ tail ∷ []) n (now (s .entry)) at ⌝ }
+{
+    if n < 4 {
+        return 0;
+    }
+    let second = stands(s, at + 1, low, high);
+    let third = stands(s, at + 2, 0x80, 0xBF);
+    let fourth = stands(s, at + 3, 0x80, 0xBF);
+    if second {
+        if third {
+            if fourth {
+                return 4;
+            }
+        }
+    }
+    0
+}
+
+// The length of the well-formed sequence at `at` within `n` bytes, 0 where there is none: by the row that the lead byte is in.
+fn sequence_at(s: &[u8], at: usize, n: usize) -> usize
+    requires { ⌜ (0 < n) × (n ≤ length (now s) - at) ⌝ }
+    ensures { λ r. ⌜ r ≡ sequence n (now (s .entry)) at ⌝ }
+{
+    let lead = s[at];
+    if lead <= 0x7F {
+        return 1;
+    }
+    if lead <= 0xC1 {
+        return 0;
+    }
+    if lead <= 0xDF {
+        return two_bytes(s, at, n);
+    }
+    if lead <= 0xE0 {
+        return three_bytes(s, at, n, 0xA0, 0xBF);
+    }
+    if lead <= 0xEC {
+        return three_bytes(s, at, n, 0x80, 0xBF);
+    }
+    if lead <= 0xED {
+        return three_bytes(s, at, n, 0x80, 0x9F);
+    }
+    if lead <= 0xEF {
+        return three_bytes(s, at, n, 0x80, 0xBF);
+    }
+    if lead <= 0xF0 {
+        return four_bytes(s, at, n, 0x90, 0xBF);
+    }
+    if lead <= 0xF3 {
+        return four_bytes(s, at, n, 0x80, 0xBF);
+    }
+    if lead <= 0xF4 {
+        return four_bytes(s, at, n, 0x80, 0x8F);
+    }
+    0
+}
+
+fn fewer(a: usize, b: usize) -> usize
+    ensures { λ r. ⌜ r ≡ least a b ⌝ }
+{
+    if a <= b { a } else { b }
+}
+
+// The length of the longest valid UTF-8 prefix of the `n` bytes at `at`, or of as many as there are.
+pub fn valid_up_to(s: &[u8], at: usize, n: usize) -> usize
+    ensures { λ r. ⌜ r ≡ validUpTo (least n (length (now (s .entry)) - at)) (now (s .entry)) at ⌝ }
+{
+    let rest = wire::left(s, at);
+    let end = fewer(n, rest);
+    let mut k: usize = 0;
+    while k < end {
+        let w = sequence_at(s, at + k, end - k);
+        if w == 0 {
+            return k;
+        }
+        k += w;
+    }
+    k
+}
+
+// How many of the `n` bytes at `at` stand before the first zero byte.
+fn before_zero(s: &[u8], at: usize, n: usize) -> usize
+    requires { ⌜ n ≤ length (now s) - at ⌝ }
+    ensures { λ r. ⌜ r ≡ before0 n (now (s .entry)) at ⌝ }
+{
+    let mut k: usize = 0;
+    while k < n {
+        if s[at + k] == 0 {
+            return k;
+        }
+        k += 1;
+    }
+    n
+}
+
+// A string of a size at a position: the longest valid UTF-8 prefix of what stands before its first zero byte.
+pub fn dlt_zero_terminated_string_intern(s: &[u8], at: usize, size: usize) -> RangeAns
+    ensures { λ r. ⌜ rangeAns r ≡ text size (now (s .entry)) at ⌝ }
+{
+    let rest = wire::left(s, at);
+    if rest < size {
+        if before_zero(s, at, rest) < rest {
+            return RangeAns::Need(size - rest);
+        }
+        return RangeAns::Need(1);
+    }
+    let content = before_zero(s, at, size);
+    RangeAns::Done(GotRange {
+        v: Range {
+            start: at,
+            len: valid_up_to(s, at, content),
+        },
+        next: at + size,
+    })
+}
+
+// A string of a size at the front of the bytes.
+pub fn dlt_zero_terminated_string(s: &[u8], size: usize) -> RangeAns
+    ensures { λ r. ⌜ rangeAns r ≡ text size (now (s .entry)) 0 ⌝ }
+{
+    dlt_zero_terminated_string_intern(s, 0, size)
+}
+
+// An identifier: a string of size 4.
+pub fn identifier(s: &[u8], at: usize) -> RangeAns
+    ensures { λ r. ⌜ rangeAns r ≡ identified (now (s .entry)) at ⌝ }
+{
+    dlt_zero_terminated_string_intern(s, at, 4)
+}
