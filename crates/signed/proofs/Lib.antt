@@ -1,2 +1,3 @@
 pub mod Complement
 pub mod Reading
+pub mod Determined

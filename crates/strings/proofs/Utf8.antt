@@ -157,7 +157,7 @@ enough (suc b) (suc m) (suc k) n s at h i j =
     enough b m k (n - sequence n s at) s (at + sequence n s at) (omega arith) (omega arith) (omega arith))
 
 -- ---- one sequence more
-valid-step : (n : ℕ) (s : List ℕ) (at w : ℕ) → 0 < n → w ≡ sequence n s at → 0 < w → validUpTo n s at ≡ w + validUpTo (n - w) s (at + w)
+pub valid-step : (n : ℕ) (s : List ℕ) (at w : ℕ) → 0 < n → w ≡ sequence n s at → 0 < w → validUpTo n s at ≡ w + validUpTo (n - w) s (at + w)
 unfolding validUpTo upTo
 valid-step zero s at w h e p = absurd (not-suc-le-zero h)
 valid-step (suc n) s at w h e p =

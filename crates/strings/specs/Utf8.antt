@@ -1,6 +1,7 @@
 -- Valid UTF-8, as the Unicode standard defines it: table 3-7, "Well-Formed UTF-8 Byte Sequences". No overlong forms, no surrogates,
 -- nothing above U+10FFFF: what Rust's `str::from_utf8` accepts.
-use Prim.Native.Nat.{ℕ, zero, suc, _+_, _-_}
+use Prim.Native.Nat.{ℕ, zero, suc, _+_, _-_, _<_}
+use mathlib.Core.Path.{_≡_}
 use mathlib.Core.Bool.{Bool, true, false, _&&_}
 use mathlib.Core.List.{List, [], _∷_}
 use lib.ListN.{length, getD}
@@ -74,6 +75,11 @@ upTo (suc m) n s at = onward (λ w. upTo m (n - w) s (at + w)) (sequence n s at)
 -- the length of the longest valid UTF-8 prefix of n bytes, which hold at most n sequences
 unfoldable pub validUpTo : ℕ → List ℕ → ℕ → ℕ
 validUpTo n s at = upTo n n s at
+
+-- valid UTF-8 itself: the n bytes at a position are well-formed sequences, end to end
+pub data ValidUtf8 (s : List ℕ) : ℕ → ℕ → Type 0 where
+  empty : {at : ℕ} → ValidUtf8 s at 0
+  more : {at n : ℕ} (w : ℕ) → 0 < w → sequence w s at ≡ w → ValidUtf8 s (at + w) n → ValidUtf8 s at (w + n)
 
 abbrev pub least : ℕ → ℕ → ℕ
 least a b = pick (leb a b) a b
