@@ -1,0 +1,4 @@
+-- The crate's own lemmas. Assumes nothing.
+pub mod Counted
+pub mod Magnitude
+pub mod Long

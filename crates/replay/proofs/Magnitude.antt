@@ -1,0 +1,34 @@
+-- The two arms of a signed number's magnitude: a number that is not negative is its own; of a negative one, -1 less it is not negative and fits.
+-- Assumes nothing.
+use Prim.Native.Nat.{ℕ, zero, suc, _-_, _^_, _<_}
+use native.Mathlib.Omega.{arith}
+use mathlib.Core.Bool.{true, false, true≢false}
+use mathlib.Core.Path.{_≡_, sym, ap, _∙_}
+use lib.Dec.{T, leb·zero}
+use lib.IntN.{ℤ, pos, negsuc, natAbs, _-ℤ_}
+use lib.Signed.{leZ, nonNeg}
+use mir.Syntax.{w64}
+use mir.Val.{Fits, SFits, toZ, ofZ}
+use mir.Facts.{toZ-pos}
+use borrow.Author.Tests.{le-ltb}
+
+beyond : (n : ℕ) → negsuc 0 -ℤ negsuc n ≡ pos n
+beyond n =
+    let e : suc n - 1 ≡ n = omega arith in
+    rw (le-ltb (suc n) 1 (omega arith)) (ap pos e)
+
+pub upper : (y : ℤ) → SFits w64 y → leZ (pos 0) y ≡ true → T (nonNeg y) × Fits w64 (natAbs y)
+upper (pos n) h q = (tt, record { fits = omega (arith, h .sfits) })
+upper (negsuc n) h q = absurd (true≢false (sym q))
+
+pub lower-fits : (y : ℤ) → SFits w64 y → leZ (pos 0) y ≡ false → SFits w64 (negsuc 0 -ℤ y)
+lower-fits (pos n) h q = absurd (true≢false (sym (leb·zero n) ∙ q))
+lower-fits (negsuc n) h q = rw (beyond n) (record { sfits = h .sfits })
+
+pub lower : (y : ℤ)
+    → SFits w64 y
+    → leZ (pos 0) y ≡ false
+    → let x = toZ w64 (ofZ w64 (negsuc 0 -ℤ y)) in
+    T (nonNeg x) × (natAbs x < 2 ^ 63)
+lower (pos n) h q = absurd (true≢false (sym (leb·zero n) ∙ q))
+lower (negsuc n) h q = rw (beyond n, toZ-pos w64 (h .sfits)) (tt, h .sfits)

@@ -1,0 +1,35 @@
+// The answer to one request, by its kind. A further kind is one more `if` in `by_kind`, and a module like zts: its function `answer` reads
+// the fields, writes `bad request` and nothing else where one of them is wrong, and answers how many bytes wait in `out` then. A kind with a
+// filter takes `filter` too.
+use crate::fields;
+use crate::writer;
+use crate::writer::Out;
+use crate::zts;
+
+// How many characters a line has at most.
+pub const LONGEST: usize = 300000;
+
+// The answer line, without the newline. `body` and `filter` are room for the request's bytes and for those of its filter.
+fn by_kind(line: &[u8], body: &mut [u8], filter: &mut [u8], out: &mut Out, at: usize) -> usize {
+    let kind = fields::word_at(line, 0);
+    let end = kind.end;
+    if fields::is(line, kind, b"zts") {
+        return zts::answer(line, end, body, out, at);
+    }
+    writer::bad_request(out, at)
+}
+
+// The answer line to a line.
+pub fn line(line: &[u8], body: &mut [u8], filter: &mut [u8], out: &mut Out, at: usize) -> usize {
+    if LONGEST < line.len() {
+        return too_long(out, at);
+    }
+    let done = by_kind(line, body, filter, out, at);
+    writer::byte(out, done, b'\n')
+}
+
+// The answer line to a line that is too long to be read.
+pub fn too_long(out: &mut Out, at: usize) -> usize {
+    let done = writer::bad_request(out, at);
+    writer::byte(out, done, b'\n')
+}
