@@ -48,7 +48,23 @@ upTo-valid (suc m) n s at = by (λ w. upTo-valid m (n - w) s (at + w)) (sequence
         rw (ne-eqb (suc w) 0 (λ z. let y : 1 ≤ 0 = omega arith in not-suc-le-zero y))
         (more (suc w) (omega arith) (between n (suc w) s at (suc w) e (omega arith) (omega arith)) (v (suc w)))
 
--- the prefix is valid
+upTo-within : (m n : ℕ) (s : List ℕ) (at : ℕ) → upTo m n s at ≤ n
+unfolding upTo
+upTo-within zero n s at = zero-le
+upTo-within (suc m) n s at = by (sequence n s at) (sequence-le n s at) (λ w. upTo-within m (n - w) s (at + w))
+  where
+    by : (w : ℕ) → w ≤ n → ((w : ℕ) → upTo m (n - w) s (at + w) ≤ n - w) → onward (λ w. upTo m (n - w) s (at + w)) w ≤ n
+    by zero h v = zero-le
+    by (suc w) h v =
+        rw (ne-eqb (suc w) 0 (λ z. let y : 1 ≤ 0 = omega arith in not-suc-le-zero y))
+        (omega (arith, v (suc w)))
+
+-- the prefix is one of the n bytes
+pub prefix-within : (n : ℕ) (s : List ℕ) (at : ℕ) → validUpTo n s at ≤ n
+unfolding validUpTo
+prefix-within n s at = upTo-within n n s at
+
+-- it is valid
 pub prefix-valid : (n : ℕ) (s : List ℕ) (at : ℕ) → ValidUtf8 s at (validUpTo n s at)
 unfolding validUpTo
 prefix-valid n s at = upTo-valid n n s at

@@ -1,0 +1,23 @@
+-- `dlt::unsigned_kind` meets its contract: `search` goes through the rule as the code does.
+-- Assumes nothing.
+use borrow.Author.Needs.{needs}
+use Rattle.dlt.proofs.Reading.{dlt-reading}
+use Rattle.dlt.specs.TypeInfoWord.{unsignedOf}
+use Rattle.dlt.proofs.unsigned_kind.Statement.{statement}
+use Rattle.dlt.proofs.unsigned_kind.Tie as tie
+
+pub unsigned-kind-spec : {M : Type 1} → statement M
+unfolding unsignedOf
+unsigned-kind-spec =
+    tie.close
+    (tie.spec
+    (λ c κs. search needs)
+    (λ c. search needs)
+    (λ c. search needs)
+    (λ c. search dlt-reading depth 20)
+    (λ c. search dlt-reading depth 20)
+    (λ c κs. search needs)
+    (λ c. search needs)
+    (λ c. search needs)
+    (λ c. search dlt-reading depth 20)
+    (λ c. search dlt-reading depth 20))
