@@ -1,7 +1,13 @@
 // The answer to one request, by its kind. A further kind is one more `if` in `by_kind`, and a module like zts: its function `answer` reads
 // the fields, writes `bad request` and nothing else where one of them is wrong, and answers how many bytes wait in `out` then. A kind with a
 // filter takes `filter` too.
+use crate::consume;
 use crate::fields;
+use crate::fwd;
+use crate::len;
+use crate::mi;
+use crate::skip;
+use crate::ti;
 use crate::writer;
 use crate::writer::Out;
 use crate::zts;
@@ -15,6 +21,24 @@ fn by_kind(line: &[u8], body: &mut [u8], filter: &mut [u8], out: &mut Out, at: u
     let end = kind.end;
     if fields::is(line, kind, b"zts") {
         return zts::answer(line, end, body, out, at);
+    }
+    if fields::is(line, kind, b"fwd") {
+        return fwd::answer(line, end, body, out, at);
+    }
+    if fields::is(line, kind, b"skip") {
+        return skip::answer(line, end, body, out, at);
+    }
+    if fields::is(line, kind, b"consume") {
+        return consume::answer(line, end, body, out, at);
+    }
+    if fields::is(line, kind, b"len") {
+        return len::answer(line, end, body, out, at);
+    }
+    if fields::is(line, kind, b"mi") {
+        return mi::answer(line, end, body, out, at);
+    }
+    if fields::is(line, kind, b"ti") {
+        return ti::answer(line, end, out, at);
     }
     writer::bad_request(out, at)
 }

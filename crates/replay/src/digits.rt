@@ -242,6 +242,15 @@ pub fn hex_bytes(line: &[u8], f: Field, body: &mut [u8]) -> usize {
     }
 }
 
+// The bytes of a request that has one field alone behind its kind. Answers like `hex_bytes`, also where there are more fields.
+pub fn only_bytes(line: &[u8], kind_end: usize, body: &mut [u8]) -> usize {
+    let bytes = fields::after(line, kind_end);
+    if bytes.end != line.len() {
+        return body.len() + 1;
+    }
+    hex_bytes(line, bytes, body)
+}
+
 // The first `n` bytes, or all where there are fewer.
 pub fn first<'a>(s: &'a [u8], n: usize) -> &'a [u8] {
     if n <= s.len() {

@@ -2,7 +2,8 @@
 // a line, and writes an answer line to each. A line that is no request is answered `bad request`.
 //
 // - lines: reads blocks and finds the lines. The only loop over the input.
-// - answer: the line of one request, by its kind. zts: a kind.
+// - answer: the line of one request, by its kind. zts, fwd, skip, consume, len, mi, ti: the kinds.
+// - types, arguments: message types, type infos and arguments as answers show them. No kind shows arguments yet.
 // - fields, digits: the words of a line, and the numbers and bytes in them.
 // - writer: text, numbers and bytes into a buffer that is written out whenever it is full.
 //
@@ -11,9 +12,17 @@ ghost use mathlib.Core.Path.{_≡_};
 ghost use lib.ListN.{length};
 
 mod answer;
+mod arguments;
+mod consume;
 mod digits;
 mod fields;
+mod fwd;
+mod len;
 mod lines;
+mod mi;
+mod skip;
+mod ti;
+mod types;
 mod writer;
 mod zts;
 

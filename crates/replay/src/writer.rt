@@ -59,11 +59,33 @@ pub fn labelled(out: &mut Out, at: usize, label: &[u8], n: u64) -> usize {
     decimal(out, next, n)
 }
 
+// A label and a number in decimal, with a `-` between where it is negative.
+pub fn labelled_signed(out: &mut Out, at: usize, label: &[u8], n: i64) -> usize {
+    let next = literal(out, at, label);
+    signed(out, next, n)
+}
+
+// The bits of a number, by two's complement.
+pub fn bits(n: i64) -> u64 {
+    let m = magnitude(n);
+    if n < 0 {
+        std::num::wrapping_sub_u64(0, m)
+    } else {
+        m
+    }
+}
+
 // A number in hex, with zeros in front up to `width` digits (16 at most).
 pub fn hex_number(out: &mut Out, at: usize, n: u64, width: usize) -> usize {
     let mut spelled = [0u8; 16];
     let k = io::hex(n, width, &mut spelled);
     literal(out, at, &spelled[..k])
+}
+
+// A label and a number in hex.
+pub fn labelled_hex(out: &mut Out, at: usize, label: &[u8], n: u64, width: usize) -> usize {
+    let next = literal(out, at, label);
+    hex_number(out, next, n, width)
 }
 
 // The hex digit of a byte's last four bits.
@@ -95,4 +117,19 @@ pub fn text(out: &mut Out, at: usize, s: &[u8], start: usize, len: usize) -> usi
 
 pub fn bad_request(out: &mut Out, at: usize) -> usize {
     literal(out, at, b"bad request")
+}
+
+// The front of an answer with a value: how many bytes it used.
+pub fn used(out: &mut Out, at: usize, n: usize) -> usize {
+    labelled(out, at, b"0 used=", n as u64)
+}
+
+// The answer where bytes are missing: how many more are asked for.
+pub fn need(out: &mut Out, at: usize, n: usize) -> usize {
+    labelled(out, at, b"2 ", n as u64)
+}
+
+// The answer where a message cannot be read: why.
+pub fn hickup(out: &mut Out, at: usize, reason: u8) -> usize {
+    labelled(out, at, b"3 ", reason as u64)
 }

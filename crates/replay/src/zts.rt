@@ -27,10 +27,10 @@ fn shown(s: &[u8], size: usize, out: &mut Out, at: usize) -> usize {
     match strings::dlt_zero_terminated_string(s, size) {
         RangeAns::Done(got) => {
             let v = got.v;
-            let used = writer::labelled(out, at, b"0 used=", got.next as u64);
+            let used = writer::used(out, at, got.next);
             let dot = writer::literal(out, used, b" .");
             writer::text(out, dot, s, v.start, v.len)
         }
-        RangeAns::Need(need) => writer::labelled(out, at, b"2 ", need as u64),
+        RangeAns::Need(need) => writer::need(out, at, need),
     }
 }

@@ -12,12 +12,15 @@ use Rattle.wire.specs.Answer.{Ans, Parser}
 use Rattle.wire.specs.Answer.Ans.{done, need}
 use Rattle.wire.specs.Parser.{asking, pick, lacking}
 use Rattle.wire.specs.Lawful.{Lawful, Reads}
-use Rattle.wire.specs.Run.{range}
+use Rattle.wire.specs.Run.{range, rangeAns}
+use Rattle.wire.specs.declared.RangeAns.{RangeAns}
+use Rattle.wire.specs.declared.GotRange.{GotRange}
 use Rattle.wire.proofs.Laws.{sized-law}
 use Rattle.wire.proofs.Step.{asking-done, asking-need}
 use Rattle.strings.specs.Utf8.{validUpTo, least}
 use Rattle.strings.specs.Text.{before0, textNeed, textOf, text, identified}
 use Rattle.strings.proofs.Utf8.{validUpTo-same}
+use Rattle.strings.proofs.Longest.{prefix-within}
 
 -- ---- the law
 before0-same : (n : ℕ) (s t : List ℕ) (at : ℕ) → at + n ≤ length s → before0 n (s ++ t) at ≡ before0 n s at
@@ -32,6 +35,11 @@ before0-le (suc n) s at = by (eqb (getD s at 0) 0) (before0-le n s (suc at))
     by : (t : Bool) {k : ℕ} → k ≤ n → pick t 0 (suc k) ≤ suc n
     by true h = zero-le
     by false h = omega arith
+
+-- a string's value is no longer than its size
+pub text-within : (n : ℕ) (s : List ℕ) (at : ℕ) → textOf n s at .len ≤ n
+unfolding textOf
+text-within n s at = omega (arith, prefix-within (before0 n s at) s at, before0-le n s at)
 
 textOf-same : (n : ℕ) → Reads n (textOf n)
 unfolding textOf
@@ -114,3 +122,20 @@ module _ (n : ℕ) (s : List ℕ) (at l : ℕ) (is-left : l ≡ length s - at) w
       sym (asking-need n _ _ s at (omega arith) ∙ rw (le-ltb (before0 (length s - at) s at) (length s - at) (omega arith)))
 
 pub ruleset texts = (text-done, text-more, text-one)
+
+-- a string that was read, where its bytes are there: r is a call's result
+module _ (n : ℕ) (s : List ℕ) (at : ℕ) (r : RangeAns) (e : rangeAns r ≡ text n s at) where
+  pub text-is : (g : GotRange) → r ≡ RangeAns.Done g → g .v ≡ textOf n s at
+  unfolding text asking
+  text-is g q = by (leb n (length s - at)) (sym (ap rangeAns q) ∙ e)
+    where
+      by : (t : Bool) → done (g .v) (g .next) ≡ pick t (done (textOf n s at) (at + n)) (need (textNeed n s at)) → g .v ≡ textOf n s at
+      by true f = cc
+      by false f = let z : _≡_ {A = ℕ} 0 1 = cc in absurd (omega arith)
+
+  pub text-there : (m : ℕ) → n ≤ length s - at → r ≡ RangeAns.Need m → ⊥
+  unfolding text
+  text-there m h q =
+      let f : need m ≡ done (textOf n s at) (at + n) = sym (ap rangeAns q) ∙ e ∙ asking-done n _ _ s at h in
+      let z : _≡_ {A = ℕ} 0 1 = cc in
+      omega arith

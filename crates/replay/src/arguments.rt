@@ -1,0 +1,117 @@
+// An argument as answers show it: where it stands, its type info, name, unit and fixed point where it has them, and its value.
+use crate::types;
+use crate::writer;
+use crate::writer::Out;
+use dlt::Argument;
+use dlt::FixedPointValue;
+use dlt::OptPoint;
+use dlt::Value;
+use headertype::OptRange;
+use reals::Real32;
+use reals::Real64;
+use wire::Range;
+
+// `[FROM-TO KIND,CODING,VARINFO,TRACEINFO name=.TEXT unit=.TEXT fp=QQQQQQQQ,i32:N VALUE]`, of an argument that was read from `s`.
+pub fn argument(out: &mut Out, at: usize, s: &[u8], a: Argument) -> usize {
+    let info = a.type_info;
+    let its_name = a.name;
+    let its_unit = a.unit;
+    let its_point = a.fixed_point;
+    let its_value = a.value;
+    let from = writer::labelled(out, at, b"[", a.start as u64);
+    let to = writer::labelled(out, from, b"-", a.end as u64);
+    let placed = writer::byte(out, to, b' ');
+    let typed = types::type_info(out, placed, info);
+    let named = label(out, typed, b" name=", s, its_name);
+    let measured = label(out, named, b" unit=", s, its_unit);
+    let scaled = fixed_point(out, measured, its_point);
+    let gap = writer::byte(out, scaled, b' ');
+    let valued = value(out, gap, s, its_value);
+    writer::byte(out, valued, b']')
+}
+
+// A name or a unit: `.TEXT`, or `-` where there is none.
+fn label(out: &mut Out, at: usize, front: &[u8], s: &[u8], text: OptRange) -> usize {
+    let done = writer::literal(out, at, front);
+    match text {
+        OptRange::Present(place) => range(out, done, b".", s, place),
+        OptRange::Absent => writer::byte(out, done, b'-'),
+    }
+}
+
+// A text with something in front.
+fn range(out: &mut Out, at: usize, front: &[u8], s: &[u8], place: Range) -> usize {
+    let done = writer::literal(out, at, front);
+    writer::text(out, done, s, place.start, place.len)
+}
+
+// Each signed number is shown as one of 64 bits.
+fn from_i8(n: i8) -> i64 {
+    n as i64
+}
+
+fn from_i16(n: i16) -> i64 {
+    n as i64
+}
+
+fn from_i32(n: i32) -> i64 {
+    n as i64
+}
+
+// The quantization's pattern and the offset, or `-`.
+fn fixed_point(out: &mut Out, at: usize, point: OptPoint) -> usize {
+    match point {
+        OptPoint::Present(p) => {
+            let its_offset = p.offset;
+            let done = writer::labelled_hex(out, at, b" fp=", p.pattern as u64, 8);
+            offset(out, done, its_offset)
+        }
+        OptPoint::Absent => writer::literal(out, at, b" fp=-"),
+    }
+}
+
+fn offset(out: &mut Out, at: usize, o: FixedPointValue) -> usize {
+    match o {
+        FixedPointValue::I32(n) => writer::labelled_signed(out, at, b",i32:", from_i32(n)),
+        FixedPointValue::I64(n) => writer::labelled_signed(out, at, b",i64:", n),
+    }
+}
+
+// A value, by its case.
+fn value(out: &mut Out, at: usize, s: &[u8], v: Value) -> usize {
+    match v {
+        Value::Bool(n) => writer::labelled(out, at, b"b:", n as u64),
+        Value::U8(n) => writer::labelled(out, at, b"u8:", n as u64),
+        Value::U16(n) => writer::labelled(out, at, b"u16:", n as u64),
+        Value::U32(n) => writer::labelled(out, at, b"u32:", n as u64),
+        Value::U64(n) => writer::labelled(out, at, b"u64:", n),
+        Value::U128 { high, low } => halves(out, at, b"u128:", high, low),
+        Value::I8(n) => writer::labelled_signed(out, at, b"i8:", from_i8(n)),
+        Value::I16(n) => writer::labelled_signed(out, at, b"i16:", from_i16(n)),
+        Value::I32(n) => writer::labelled_signed(out, at, b"i32:", from_i32(n)),
+        Value::I64(n) => writer::labelled_signed(out, at, b"i64:", n),
+        Value::I128 { high, low } => halves(out, at, b"i128:", writer::bits(high), low),
+        Value::F32(x) => float(out, at, Real32::Number(x)),
+        Value::F32NotANumber(bits) => float(out, at, Real32::NotANumber(bits)),
+        Value::F64(x) => long_float(out, at, Real64::Number(x)),
+        Value::F64NotANumber(bits) => long_float(out, at, Real64::NotANumber(bits)),
+        Value::StringVal(place) => range(out, at, b"s:", s, place),
+        Value::Raw(place) => range(out, at, b"r:", s, place),
+    }
+}
+
+// A number of 128 bits: each half is 16 digits.
+fn halves(out: &mut Out, at: usize, front: &[u8], high: u64, low: u64) -> usize {
+    let done = writer::labelled_hex(out, at, front, high, 16);
+    writer::hex_number(out, done, low, 16)
+}
+
+// A float of 32 bits: its pattern.
+fn float(out: &mut Out, at: usize, x: Real32) -> usize {
+    writer::labelled_hex(out, at, b"f32:", reals::bits32(x) as u64, 8)
+}
+
+// A float of 64 bits: its pattern.
+fn long_float(out: &mut Out, at: usize, x: Real64) -> usize {
+    writer::labelled_hex(out, at, b"f64:", reals::bits64(x), 16)
+}
