@@ -78,11 +78,11 @@ module _ (s : List ℕ) (at : ℕ) (byte : htypOf s at < 256) where
       let m2 : r2 .mid ≡ at + 4 + b2 = i2 .1 ∙ ap₂ (λ (k y : ℕ). k + pick (flag 8 y) 4 0) m1 t ∙ omega arith in
       let m3 : r3 .mid ≡ at + 4 + b3 = i3 .1 ∙ ap₂ (λ (k y : ℕ). k + pick (flag 16 y) 4 0) m2 t ∙ omega arith in
       let f1 : r1 .value ≡ pick (flag 4 (htypOf s at)) (OptRange.Present (textOf 4 s (at + 4))) OptRange.Absent
-          = i1 .0 ∙ ap₂ (λ (k y : ℕ). pick (flag 4 y) (OptRange.Present (textOf 4 s k)) OptRange.Absent) m t in
+      = i1 .0 ∙ ap₂ (λ (k y : ℕ). pick (flag 4 y) (OptRange.Present (textOf 4 s k)) OptRange.Absent) m t in
       let f2 : r2 .value ≡ pick (flag 8 (htypOf s at)) (OptNum.Present (bigEndian 4 s (at + 4 + b1))) OptNum.Absent
-          = i2 .0 ∙ ap₂ (λ (k y : ℕ). pick (flag 8 y) (OptNum.Present (bigEndian 4 s k)) OptNum.Absent) m1 t in
+      = i2 .0 ∙ ap₂ (λ (k y : ℕ). pick (flag 8 y) (OptNum.Present (bigEndian 4 s k)) OptNum.Absent) m1 t in
       let f3 : r3 .value ≡ pick (flag 16 (htypOf s at)) (OptNum.Present (bigEndian 4 s (at + 4 + b2))) OptNum.Absent
-          = i3 .0 ∙ ap₂ (λ (k y : ℕ). pick (flag 16 y) (OptNum.Present (bigEndian 4 s k)) OptNum.Absent) m2 t in
+      = i3 .0 ∙ ap₂ (λ (k y : ℕ). pick (flag 16 y) (OptNum.Present (bigEndian 4 s k)) OptNum.Absent) m2 t in
       by (r1 .value) (r2 .value) (r3 .value) (r3 .mid) f1 f2 f3 m3 (leb (allHeaders type) length) (r3 .second)
     where
       by : (ecu : OptRange) (session time : OptNum) (k : ℕ)

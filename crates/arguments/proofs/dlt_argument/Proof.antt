@@ -1,0 +1,21 @@
+-- `arguments::dlt_argument` meets its contract: `search` goes through the rule as the code does.
+-- Assumes nothing.
+use borrow.Author.Needs.{needs}
+use Rattle.arguments.proofs.Reading.{arguments-reading}
+use Rattle.arguments.specs.Argument.{argument}
+use Rattle.arguments.proofs.dlt_argument.Statement.{statement}
+use Rattle.arguments.proofs.dlt_argument.Tie as tie
+
+pub dlt-argument-spec : {M : Type 1} → statement M
+unfolding argument
+dlt-argument-spec =
+    tie.close
+    (tie.spec
+    (λ c κs. search needs)
+    (λ c. search needs)
+    (λ c. search needs)
+    (λ c. search arguments-reading depth 20)
+    (λ c. search needs)
+    (λ c. search arguments-reading depth 20)
+    (λ c κs. search needs)
+    (λ c. search arguments-reading depth 20))

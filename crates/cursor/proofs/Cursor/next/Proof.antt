@@ -1,0 +1,21 @@
+-- `cursor::Cursor::next` meets its contract: `search` goes through the rule as the code does.
+-- Assumes nothing.
+use borrow.Author.Needs.{needs}
+use Rattle.arguments.proofs.Reading.{arguments-reading}
+use Rattle.cursor.specs.Cursor.{turn}
+use Rattle.cursor.proofs.Cursor.next.Statement.{statement}
+use Rattle.cursor.proofs.Cursor.next.Tie as tie
+
+pub next-spec : {M : Type 1} → statement M
+unfolding turn
+next-spec =
+    tie.close
+    (tie.spec
+    (λ c κs. search needs)
+    (λ c. search needs)
+    (λ c. search needs)
+    (λ c. search arguments-reading depth 20)
+    (λ c. search needs)
+    (λ c. search arguments-reading depth 20)
+    (λ c. search arguments-reading depth 20)
+    (λ c. search arguments-reading depth 20))

@@ -1,0 +1,24 @@
+-- Each contract fixes the answer (wire's Determined.antt).
+use mathlib.Core.Path.{_≡_, refl}
+use Rattle.wire.specs.Answer.{Ans}
+use Rattle.wire.proofs.Determined.{one-answer, back}
+use Rattle.cursor.specs.Cursor.{passAns, turnAns}
+use Rattle.cursor.specs.declared.PassAns.{PassAns}
+use Rattle.cursor.specs.declared.Turn.{Turn}
+use Rattle.cursor.specs.declared.TurnAns.{TurnAns}
+
+pass-back : (r : PassAns) → back (λ u b. PassAns.Done b) PassAns.Need PassAns.Hickup (passAns r) ≡ r
+pass-back (PassAns.Done b) = refl
+pass-back (PassAns.Need n) = refl
+pass-back (PassAns.Hickup n) = refl
+
+pub pass-determined : {r r′ : PassAns} {x : Ans Unit} → passAns r ≡ x → passAns r′ ≡ x → r ≡ r′
+pass-determined = one-answer passAns (λ u b. PassAns.Done b) PassAns.Need PassAns.Hickup pass-back
+
+turn-back : (r : TurnAns) → back (λ a b. TurnAns.Done (record { v = a; next = b })) TurnAns.Need TurnAns.Hickup (turnAns r) ≡ r
+turn-back (TurnAns.Done g) = refl
+turn-back (TurnAns.Need n) = refl
+turn-back (TurnAns.Hickup n) = refl
+
+pub turn-determined : {r r′ : TurnAns} {x : Ans Turn} → turnAns r ≡ x → turnAns r′ ≡ x → r ≡ r′
+turn-determined = one-answer turnAns (λ a b. TurnAns.Done (record { v = a; next = b })) TurnAns.Need TurnAns.Hickup turn-back

@@ -1,0 +1,20 @@
+-- `names::dlt_variable_name` meets its contract: `search` goes through the rule as the code does.
+-- Assumes nothing.
+use borrow.Author.Needs.{needs}
+use Rattle.names.proofs.Reading.{names-reading}
+use Rattle.names.specs.Names.{name}
+use Rattle.names.proofs.dlt_variable_name.Statement.{statement}
+use Rattle.names.proofs.dlt_variable_name.Tie as tie
+
+pub dlt-variable-name-spec : {M : Type 1} → statement M
+unfolding name
+dlt-variable-name-spec =
+    tie.close
+    (tie.spec
+    (λ c κs. search needs)
+    (λ c. search needs)
+    (λ c. search needs)
+    (λ c κs. search needs)
+    (λ c. search needs)
+    (λ c. search names-reading depth 20)
+    (λ c. search names-reading depth 20))

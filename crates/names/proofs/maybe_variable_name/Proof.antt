@@ -1,0 +1,19 @@
+-- `names::maybe_variable_name` meets its contract: `search` goes through the rule as the code does.
+-- Assumes nothing.
+use borrow.Author.Needs.{needs}
+use Rattle.names.proofs.Reading.{names-reading}
+use Rattle.names.specs.Names.{maybeName}
+use Rattle.names.proofs.maybe_variable_name.Statement.{statement}
+use Rattle.names.proofs.maybe_variable_name.Tie as tie
+
+pub maybe-variable-name-spec : {M : Type 1} → statement M
+unfolding maybeName
+maybe-variable-name-spec =
+    tie.close
+    (tie.spec
+    (λ c κs. search needs)
+    (λ c. search needs)
+    (λ c. search needs)
+    (λ c. search names-reading depth 20)
+    (λ c. search names-reading depth 20)
+    (λ c. search names-reading depth 20))

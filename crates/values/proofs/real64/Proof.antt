@@ -1,0 +1,15 @@
+-- `values::real64` meets its contract: `search` goes through the rule as the code does.
+-- Assumes nothing.
+use borrow.Author.Needs.{needs}
+use Rattle.values.proofs.Reading.{floats}
+use Rattle.values.proofs.real64.Statement.{statement}
+use Rattle.values.proofs.real64.Tie as tie
+
+pub real64-spec : {M : Type 1} → statement M
+real64-spec =
+    tie.close
+    (tie.spec
+    (λ c. search needs)
+    (λ c. search needs)
+    (λ c. search floats depth 20)
+    (λ c. search floats depth 20))
