@@ -10,7 +10,7 @@ use lib.Dec.{leb}
 use Rattle.wire.specs.Answer.{Ans, Parser}
 use Rattle.wire.specs.Answer.Ans.{done, need, hickup, broken}
 use Rattle.wire.specs.Parser.{pick, _>>=_, ret, refuse, choose}
-use Rattle.wire.specs.Number.{number}
+use Rattle.wire.specs.Number.{digits, numberOf, number}
 use Rattle.wire.specs.declared.Range.{Range}
 use Rattle.strings.specs.Text.{textOf, identified}
 use Rattle.headertype.specs.Bits.{flag}
@@ -24,7 +24,26 @@ use Rattle.headers.specs.Extended.{extendedOf, named, extended}
 use Rattle.protocol.specs.Fields.{UEH, WEID, WSID, WTMS, Field, offset, headers, bigEndian, fieldNumber}
 use Rattle.protocol.proofs.Lengths.{headers-length}
 use Rattle.agreement.specs.Agree.{htypOf, numberField, idField, StandardAgrees, ExtendedAgrees}
-use Rattle.agreement.proofs.Inverse.{Split, split, of-ret, of-refuse, of-number, of-id, of-maybe-id, of-maybe-number}
+use Rattle.headers.proofs.Inverse as inverse
+use Rattle.headers.proofs.Inverse.{Split, split, of-ret, of-refuse, of-id, of-maybe-id}
+
+-- the number of w bytes, as the protocol has it
+big-number : (w : ℕ) (s : List ℕ) (at : ℕ) → numberOf true w s at ≡ bigEndian w s at
+unfolding numberOf
+big-number w s at = digits-big w w s at
+  where
+    digits-big : (w n : ℕ) (s : List ℕ) (at : ℕ) → digits true w s at n ≡ bigEndian n s at
+    digits-big w zero s at = refl
+    digits-big w (suc n) s at = ap (λ (d : ℕ). d * 256 + getD s (at + n) 0) (digits-big w n s at)
+
+of-number : {v n : ℕ} (w : ℕ) (s : List ℕ) (at : ℕ) → number true w s at ≡ done v n → (v ≡ bigEndian w s at) × (n ≡ at + w)
+of-number w s at e = let r = inverse.of-number true w s at e in (r .0 ∙ big-number w s at, r .1)
+
+of-maybe-number : {o : OptNum} {n : ℕ} (t : Bool) (s : List ℕ) (at : ℕ) → maybeNumber t s at ≡ done o n
+    → (o ≡ pick t (OptNum.Present (bigEndian 4 s at)) OptNum.Absent) × (n ≡ at + pick t 4 0)
+of-maybe-number t s at e =
+    let r = inverse.of-maybe-number t s at e in
+    (r .0 ∙ ap (λ (v : ℕ). pick t (OptNum.Present v) OptNum.Absent) (big-number 4 s at), r .1)
 
 one-byte : (s : List ℕ) (at : ℕ) → bigEndian 1 s at ≡ getD s at 0
 one-byte s at = rw add-zero (omega arith)

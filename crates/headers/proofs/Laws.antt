@@ -7,7 +7,7 @@ use Rattle.strings.proofs.Strings.{identified-law}
 use Rattle.headers.specs.Standard.{maybeId, maybeNumber, flagged, standard, declared}
 use Rattle.headers.specs.Extended.{named, extended}
 
-maybeId-law : (t : Bool) → Lawful (maybeId t)
+pub maybeId-law : (t : Bool) → Lawful (maybeId t)
 unfolding maybeId
 maybeId-law t = search (laws, identified-law) depth 20
 
