@@ -57,7 +57,7 @@ module _ (f : List ℕ) (filter : Filter) (stored : OptStored) where
   finished-at start h s at l ecu =
       then-at (maybeExtended (h .«has_extended_header»)) _ s at (lawful-at _ (maybeExtended-law (h .«has_extended_header»)) s at l)
       (λ e b q k. from-at start (overallLength h) (seen (headersOf f filter stored h e)) s b
-        (seen-at (headersOf f filter stored h e) s b k (λ t. headers-same h e s t (maybe-ids (h .«has_extended_header») e b s at l q) ecu)))
+      (seen-at (headersOf f filter stored h e) s b k (λ t. headers-same h e s t (maybe-ids (h .«has_extended_header») e b s at l q) ecu)))
 
   pub headers-law : Lawful (headers f filter stored)
   unfolding headers
