@@ -8,6 +8,7 @@ use Rattle.wire.specs.Answer.Ans.{done, need, hickup, broken}
 use Rattle.wire.specs.Parser.{ret, here, choose, times, _>>=_}
 use Rattle.dlt.specs.declared.Argument.{Argument}
 use Rattle.arguments.specs.Argument.{argument}
+use Rattle.cursor.specs.Row.{Step, item, end}
 use Rattle.cursor.specs.declared.Cursor.{Cursor}
 use Rattle.cursor.specs.declared.Turn.{Turn}
 use Rattle.cursor.specs.declared.PassAns.{PassAns}
@@ -47,25 +48,16 @@ turnAns (TurnAns.Need n) = need n
 turnAns (TurnAns.Hickup r) = hickup r
 
 -- ---- what the theorems of proofs/Row.antt say
--- an argument before others
-abbrev pub before : Argument → Ans (List Argument) → Ans (List Argument)
-before a (done rest b) = done (a ∷ rest) b
-before a (need n) = need n
-before a (hickup r) = hickup r
-before a broken = broken
+-- a call over these bytes (specs/Row.antt says what its calls hand out)
+abbrev pub stepped : Ans Turn → Ans (Step Argument Cursor)
+stepped (done (Turn.Item h) b) = done (item (h .argument) (h .rest)) b
+stepped (done Turn.End b) = done end b
+stepped (need n) = need n
+stepped (hickup r) = hickup r
+stepped broken = broken
 
--- what follows a call: the argument that it handed out and what the calls after it give, or the end of all
-abbrev pub onward : (Cursor → Ans (List Argument)) → Ans Turn → Ans (List Argument)
-onward k (done (Turn.Item h) b) = before (h .argument) (k (h .rest))
-onward k (done Turn.End b) = done [] b
-onward k (need m) = need m
-onward k (hickup r) = hickup r
-onward k broken = broken
-
--- all that n calls hand out, in order, and where the last of them leaves the cursor
-abbrev pub walk : List ℕ → ℕ → Cursor → Ans (List Argument)
-walk s zero c = done [] (c .at)
-walk s (suc n) c = onward (walk s n) (turn c s (c .at))
+abbrev pub called : List ℕ → Cursor → Ans (Step Argument Cursor)
+called s c = stepped (turn c s (c .at))
 
 -- a list that was read, as passed
 abbrev pub passed : Ans (List Argument) → Ans Unit
@@ -73,15 +65,3 @@ passed (done rest b) = done tt b
 passed (need n) = need n
 passed (hickup r) = hickup r
 passed broken = broken
-
--- how many arguments n calls hand out
-abbrev pub counted : (Cursor → ℕ) → Ans Turn → ℕ
-counted k (done (Turn.Item h) b) = suc (k (h .rest))
-counted k (done Turn.End b) = 0
-counted k (need m) = 0
-counted k (hickup r) = 0
-counted k broken = 0
-
-abbrev pub handed : List ℕ → ℕ → Cursor → ℕ
-handed s zero c = 0
-handed s (suc n) c = counted (handed s n) (turn c s (c .at))

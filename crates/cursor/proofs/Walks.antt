@@ -1,0 +1,92 @@
+-- A cursor over any elements.
+--     in-a-row       n calls give the first n of those that are left: their list, or its need or Hickup
+--     to-its-end     and as many calls as are left, or more, give the whole list: the cursor walked to its end is the list
+--     never-more     however often it is called, a cursor hands out no more than it has left
+-- Assumes nothing.
+use Prim.Native.Nat.{ℕ, zero, suc, _≤_, zero-le}
+use native.Mathlib.Omega.{arith}
+use mathlib.Core.Path.{_≡_, refl, sym, ap, _∙_}
+use mathlib.Core.List.{List, [], _∷_}
+use Rattle.wire.specs.Answer.{Ans, Parser}
+use Rattle.wire.specs.Answer.Ans.{done, need, hickup, broken}
+use Rattle.wire.specs.Parser.{_>>=_, ret, follow}
+use Rattle.cursor.specs.Row.{Step, item, end, before, onward, walk, counted, handed}
+
+-- a list of one more, by what the first element's rule answers
+abbrev pub more : {A : Type 0} → (ℕ → Ans (List A)) → Ans A → Ans (List A)
+more rest (done a b) = before a (rest b)
+more rest (need n) = need n
+more rest (hickup r) = hickup r
+more rest broken = broken
+
+module _ {A : Type 0} (p : Parser A) (q : Parser (List A)) (s : List ℕ) where
+  before-is : (a : A) (x : Ans (List A)) → follow x (λ rest. ret (a ∷ rest)) s ≡ before a x
+  unfolding ret
+  before-is a (done rest b) = refl
+  before-is a (need n) = refl
+  before-is a (hickup r) = refl
+  before-is a broken = refl
+
+  pub more-is : (at : ℕ) → (p >>= (λ a. q >>= (λ rest. ret (a ∷ rest)))) s at ≡ more (q s) (p s at)
+  unfolding _>>=_
+  more-is at = by (p s at)
+    where
+      by : (x : Ans A) → follow x (λ a s at. follow (q s at) (λ rest. ret (a ∷ rest)) s) s ≡ more (q s) x
+      by (done a b) = before-is a (q s b)
+      by (need n) = refl
+      by (hickup r) = refl
+      by broken = refl
+
+module _ {A C : Type 0} (left : C → ℕ) (list : ℕ → C → Ans (List A)) where
+  -- a call with k + 1 left, and y, the list of n + 1
+  abbrev pub Goes : ℕ → ℕ → Ans (Step A C) → Ans (List A) → Type 0
+  Goes k n (done (item a d) b) y = (left d ≡ k) × (y ≡ before a (list n d))
+  Goes k n (done end b) y = ⊥
+  Goes k n (need m) y = y ≡ need m
+  Goes k n (hickup r) y = y ≡ hickup r
+  Goes k n broken y = y ≡ broken
+
+-- how a cursor c with `left c` elements left has to answer, where `list n c` is the list of the first n of them
+pub record Faithful {A C : Type 0} (call : C → Ans (Step A C)) (place left : C → ℕ) (list : ℕ → C → Ans (List A)) : Type 0 where
+  pub none : (c : C) → list 0 c ≡ done [] (place c)
+  pub ends : (c : C) → left c ≡ 0 → call c ≡ done end (place c)
+  pub goes : (c : C) (k n : ℕ) → left c ≡ suc k → Goes left list k n (call c) (list (suc n) c)
+
+module _ {A C : Type 0} {call : C → Ans (Step A C)} {place left : C → ℕ} {list : ℕ → C → Ans (List A)} (f : Faithful call place left list) where
+  first : (n m k : ℕ) (x : Ans (Step A C)) (y : Ans (List A)) → Goes left list k m x y → ((d : C) → left d ≡ k → walk call place n d ≡ list m d) → onward (walk call place n) x ≡ y
+  first n m k (done (item a d) b) y g next = ap (before a) (next d (g .0)) ∙ sym (g .1)
+  first n m k (done end b) y g next = absurd g
+  first n m k (need l) y g next = sym g
+  first n m k (hickup r) y g next = sym g
+  first n m k broken y g next = sym g
+
+  pub in-a-row : (n : ℕ) (c : C) → n ≤ left c → walk call place n c ≡ list n c
+  in-a-row zero c h = sym (f .none c)
+  in-a-row (suc n) c h = by (left c) refl (in-a-row n)
+    where
+      by : (k : ℕ) → left c ≡ k → ((d : C) → n ≤ left d → walk call place n d ≡ list n d) → onward (walk call place n) (call c) ≡ list (suc n) c
+      by zero e next = absurd (let z : suc n ≤ 0 = rw (← e) h in omega arith)
+      by (suc k) e next = first n n k (call c) (list (suc n) c) (f .goes c k n e) (λ d g. next d (omega arith))
+
+  pub to-its-end : (n : ℕ) (c : C) → left c ≤ n → walk call place n c ≡ list (left c) c
+  to-its-end zero c h = let e : left c ≡ 0 = omega arith in rw e (sym (f .none c))
+  to-its-end (suc n) c h = by (left c) refl (to-its-end n)
+    where
+      by : (k : ℕ) → left c ≡ k → ((d : C) → left d ≤ n → walk call place n d ≡ list (left d) d) → onward (walk call place n) (call c) ≡ list k c
+      by zero e next = ap (onward (walk call place n)) (f .ends c e) ∙ sym (f .none c)
+      by (suc k) e next = first n k k (call c) (list (suc k) c) (f .goes c k k e) (λ d g. next d (omega arith) ∙ ap (λ (l : ℕ). list l d) g)
+
+  pub never-more : (n : ℕ) (c : C) → handed call n c ≤ left c
+  never-more zero c = zero-le
+  never-more (suc n) c = by (left c) refl (never-more n)
+    where
+      some : (k : ℕ) (x : Ans (Step A C)) (y : Ans (List A)) → Goes left list k 0 x y → ((d : C) → handed call n d ≤ left d) → counted (handed call n) x ≤ suc k
+      some k (done (item a d) b) y g less = let l : handed call n d ≤ left d = less d in omega (arith, g .0)
+      some k (done end b) y g less = zero-le
+      some k (need m) y g less = zero-le
+      some k (hickup r) y g less = zero-le
+      some k broken y g less = zero-le
+
+      by : (k : ℕ) → left c ≡ k → ((d : C) → handed call n d ≤ left d) → counted (handed call n) (call c) ≤ k
+      by zero e less = rw (f .ends c e) zero-le
+      by (suc k) e less = some k (call c) (list 1 c) (f .goes c k 0 e) less

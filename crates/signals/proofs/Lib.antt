@@ -1,0 +1,5 @@
+pub mod Reading
+pub mod Words
+pub mod Row
+pub mod Determined
+pub mod Vectors

@@ -1,0 +1,16 @@
+-- `signals::fixed_point_content` meets its contract: `search` goes through the rule as the code does.
+-- Assumes nothing.
+use borrow.Author.Needs.{needs}
+use Rattle.signals.proofs.Reading.{contents}
+use Rattle.signals.proofs.fixed_point_content.Statement.{statement}
+use Rattle.signals.proofs.fixed_point_content.Tie as tie
+
+pub fixed-point-content-spec : {M : Type 1} → statement M
+fixed-point-content-spec =
+    tie.close
+    (tie.spec
+    (λ c κs. search needs)
+    (λ c κs. search needs)
+    (λ c. search needs)
+    (λ c. search contents depth 20)
+    (λ c. search contents depth 20))
