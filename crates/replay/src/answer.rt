@@ -1,11 +1,13 @@
 // The answer to one request, by its kind. A further kind is one more `if` in `by_kind`, and a module like zts: its function `answer` reads
 // the fields, writes `bad request` and nothing else where one of them is wrong, and answers how many bytes wait in `out` then. A kind with a
-// filter takes `filter` too.
+// filter takes `filter` too, one with type info words `words`.
+use crate::args;
 use crate::consume;
 use crate::fields;
 use crate::fwd;
 use crate::len;
 use crate::mi;
+use crate::msg;
 use crate::skip;
 use crate::ti;
 use crate::writer;
@@ -15,8 +17,8 @@ use crate::zts;
 // How many characters a line has at most.
 pub const LONGEST: usize = 300000;
 
-// The answer line, without the newline. `body` and `filter` are room for the request's bytes and for those of its filter.
-fn by_kind(line: &[u8], body: &mut [u8], filter: &mut [u8], out: &mut Out, at: usize) -> usize {
+// The answer line, without the newline, of a kind that has neither a filter nor type info words.
+fn by_small_kind(line: &[u8], body: &mut [u8], out: &mut Out, at: usize) -> usize {
     let kind = fields::word_at(line, 0);
     let end = kind.end;
     if fields::is(line, kind, b"zts") {
@@ -43,12 +45,39 @@ fn by_kind(line: &[u8], body: &mut [u8], filter: &mut [u8], out: &mut Out, at: u
     writer::bad_request(out, at)
 }
 
+// The answer line, without the newline. `body`, `filter` and `words` are room for the request's bytes, its filter's and its type info words.
+fn by_kind(
+    line: &[u8],
+    body: &mut [u8],
+    filter: &mut [u8],
+    words: &mut [u32],
+    out: &mut Out,
+    at: usize,
+) -> usize {
+    let kind = fields::word_at(line, 0);
+    let end = kind.end;
+    if fields::is(line, kind, b"msg") {
+        return msg::answer(line, end, body, filter, out, at);
+    }
+    if fields::is(line, kind, b"args") {
+        return args::answer(line, end, body, words, out, at);
+    }
+    by_small_kind(line, body, out, at)
+}
+
 // The answer line to a line.
-pub fn line(line: &[u8], body: &mut [u8], filter: &mut [u8], out: &mut Out, at: usize) -> usize {
+pub fn line(
+    line: &[u8],
+    body: &mut [u8],
+    filter: &mut [u8],
+    words: &mut [u32],
+    out: &mut Out,
+    at: usize,
+) -> usize {
     if LONGEST < line.len() {
         return too_long(out, at);
     }
-    let done = by_kind(line, body, filter, out, at);
+    let done = by_kind(line, body, filter, words, out, at);
     writer::byte(out, done, b'\n')
 }
 

@@ -258,3 +258,11 @@ pub fn first<'a>(s: &'a [u8], n: usize) -> &'a [u8] {
     }
     s
 }
+
+// The first `n` words, or all where there are fewer.
+pub fn first_words<'a>(words: &'a [u32], n: usize) -> &'a [u32] {
+    if n <= words.len() {
+        return &words[..n];
+    }
+    words
+}

@@ -48,13 +48,14 @@ fn answer_line(
     dropping: bool,
     body: &mut [u8],
     filter: &mut [u8],
+    words: &mut [u32],
     out: &mut Out,
     at: usize,
 ) -> usize {
     if dropping {
         return at;
     }
-    answer::line(line, body, filter, out, at)
+    answer::line(line, body, filter, words, out, at)
 }
 
 // Answers each line of a block that ends in a newline, and writes the answers out. The first `seen` bytes have no newline. What stands from
@@ -65,6 +66,7 @@ fn answer_lines(
     skip: bool,
     body: &mut [u8],
     filter: &mut [u8],
+    words: &mut [u32],
     out: &mut Out,
 ) -> Feed {
     let mut start = 0;
@@ -72,7 +74,7 @@ fn answer_lines(
     let mut at = 0;
     let mut end = newline(block, seen);
     while end < block.len() {
-        at = answer_line(&block[start..end], dropping, body, filter, out, at);
+        at = answer_line(&block[start..end], dropping, body, filter, words, out, at);
         dropping = false;
         start = end + 1;
         end = newline(block, start);
@@ -125,7 +127,13 @@ fn keep_rest(input: &mut [u8], end: usize, feed: Feed, out: &mut Out) -> Feed
 }
 
 // The end of the input: a last line without a newline is answered too.
-fn finish(line: &[u8], body: &mut [u8], filter: &mut [u8], out: &mut Out) -> Feed {
+fn finish(
+    line: &[u8],
+    body: &mut [u8],
+    filter: &mut [u8],
+    words: &mut [u32],
+    out: &mut Out,
+) -> Feed {
     let end = Feed {
         kept: 0,
         dropping: false,
@@ -134,25 +142,38 @@ fn finish(line: &[u8], body: &mut [u8], filter: &mut [u8], out: &mut Out) -> Fee
     if line.len() == 0 {
         return end;
     }
-    let at = answer::line(line, body, filter, out, 0);
+    let at = answer::line(line, body, filter, words, out, 0);
     writer::flush(out, at);
     end
 }
 
 // One block: reads once, and answers the lines that are whole then.
-fn turn(input: &mut [u8], feed: Feed, body: &mut [u8], filter: &mut [u8], out: &mut Out) -> Feed {
+fn turn(
+    input: &mut [u8],
+    feed: Feed,
+    body: &mut [u8],
+    filter: &mut [u8],
+    words: &mut [u32],
+    out: &mut Out,
+) -> Feed {
     let kept = feed.kept;
     let end = read_more(input, kept);
     if end <= kept {
-        return finish(&input[..end], body, filter, out);
+        return finish(&input[..end], body, filter, words, out);
     }
-    let rest = answer_lines(&input[..end], kept, feed.dropping, body, filter, out);
+    let rest = answer_lines(&input[..end], kept, feed.dropping, body, filter, words, out);
     keep_rest(input, end, rest, out)
 }
 
 // Answers every line of standard input. A proved loop has to end, and nothing says that an input does: so the loop counts its turns down,
 // from a number that no run uses up.
-pub fn serve(input: &mut [u8], body: &mut [u8], filter: &mut [u8], out: &mut Out) {
+pub fn serve(
+    input: &mut [u8],
+    body: &mut [u8],
+    filter: &mut [u8],
+    words: &mut [u32],
+    out: &mut Out,
+) {
     let mut feed = Feed {
         kept: 0,
         dropping: false,
@@ -160,7 +181,7 @@ pub fn serve(input: &mut [u8], body: &mut [u8], filter: &mut [u8], out: &mut Out
     };
     let mut turns = u64::MAX;
     while 0 < turns && !feed.ended {
-        feed = turn(input, feed, body, filter, out);
+        feed = turn(input, feed, body, filter, words, out);
         turns -= 1;
     }
 }

@@ -2,24 +2,28 @@
 // a line, and writes an answer line to each. A line that is no request is answered `bad request`.
 //
 // - lines: reads blocks and finds the lines. The only loop over the input.
-// - answer: the line of one request, by its kind. zts, fwd, skip, consume, len, mi, ti: the kinds.
-// - types, arguments: message types, type infos and arguments as answers show them. No kind shows arguments yet.
+// - answer: the line of one request, by its kind. zts, fwd, skip, consume, len, mi, ti, msg, args: the kinds.
+// - types, argument, contents, message: message types, type infos, arguments, payloads and messages as answers show them.
 // - fields, digits: the words of a line, and the numbers and bytes in them.
 // - writer: text, numbers and bytes into a buffer that is written out whenever it is full.
 //
-// All memory is the four arrays of `main`: functions borrow them, and hand on numbers by value.
+// All memory is the five arrays of `main`: functions borrow them, and hand on numbers by value.
 ghost use mathlib.Core.Path.{_≡_};
 ghost use lib.ListN.{length};
 
 mod answer;
-mod arguments;
+mod args;
+mod argument;
 mod consume;
+mod contents;
 mod digits;
 mod fields;
 mod fwd;
 mod len;
 mod lines;
+mod message;
 mod mi;
+mod msg;
 mod skip;
 mod ti;
 mod types;
@@ -33,8 +37,15 @@ fn block_room() -> [u8; 1048576]
     [0; 1048576]
 }
 
-// Room for the bytes of a line of 300,000 characters.
+// Room for the bytes of a line of 300,000 characters, and for those of its filter.
 fn body_room() -> [u8; 150000]
+    ensures { λ r. ⌜ 150000 ≡ length r ⌝ }
+{
+    [0; 150000]
+}
+
+// Room for the type info words of such a line: a digit and a comma for each.
+fn words_room() -> [u32; 150000]
     ensures { λ r. ⌜ 150000 ≡ length r ⌝ }
 {
     [0; 150000]
@@ -43,7 +54,8 @@ fn body_room() -> [u8; 150000]
 fn main() {
     let mut input = block_room();
     let mut body = body_room();
-    let mut filter = io::large_buffer();
+    let mut filter = body_room();
+    let mut words = words_room();
     let mut out = io::large_buffer();
-    lines::serve(&mut input, &mut body, &mut filter, &mut out);
+    lines::serve(&mut input, &mut body, &mut filter, &mut words, &mut out);
 }

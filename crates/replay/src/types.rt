@@ -50,7 +50,7 @@ fn network_number(trace: NetworkTraceType) -> u64 {
     }
 }
 
-fn control_number(control: ControlType) -> u64 {
+pub fn control_number(control: ControlType) -> u64 {
     match control {
         ControlType::Request => 1,
         ControlType::Response => 2,
@@ -129,7 +129,7 @@ fn coding_number(coding: StringCoding) -> u64 {
     }
 }
 
-fn flag_number(flag: bool) -> u64 {
+pub fn flag_number(flag: bool) -> u64 {
     if flag { 1 } else { 0 }
 }
 

@@ -1,5 +1,8 @@
 // Writes into a buffer `out`, of which the first `at` bytes wait to be written. Each function takes `at` and answers the new one. Where the
 // buffer is full it is written out first, so an answer may be longer than the buffer.
+use headertype::OptRange;
+use wire::Range;
+
 pub type Out = [u8; 65536];
 
 // Writes out what waits. Answers that nothing does.
@@ -113,6 +116,21 @@ pub fn text(out: &mut Out, at: usize, s: &[u8], start: usize, len: usize) -> usi
     let shown = hex_bytes(out, at, s, start, len);
     let placed = labelled(out, shown, b"@", start as u64);
     labelled(out, placed, b"+", len as u64)
+}
+
+// A label and a TEXT.
+pub fn range(out: &mut Out, at: usize, label: &[u8], s: &[u8], place: Range) -> usize {
+    let done = literal(out, at, label);
+    text(out, done, s, place.start, place.len)
+}
+
+// A label and `.TEXT`, or `-` where there is none.
+pub fn maybe_range(out: &mut Out, at: usize, label: &[u8], s: &[u8], place: OptRange) -> usize {
+    let done = literal(out, at, label);
+    match place {
+        OptRange::Present(found) => range(out, done, b".", s, found),
+        OptRange::Absent => byte(out, done, b'-'),
+    }
 }
 
 pub fn bad_request(out: &mut Out, at: usize) -> usize {

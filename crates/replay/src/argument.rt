@@ -6,10 +6,8 @@ use dlt::Argument;
 use dlt::FixedPointValue;
 use dlt::OptPoint;
 use dlt::Value;
-use headertype::OptRange;
 use reals::Real32;
 use reals::Real64;
-use wire::Range;
 
 // `[FROM-TO KIND,CODING,VARINFO,TRACEINFO name=.TEXT unit=.TEXT fp=QQQQQQQQ,i32:N VALUE]`, of an argument that was read from `s`.
 pub fn argument(out: &mut Out, at: usize, s: &[u8], a: Argument) -> usize {
@@ -22,27 +20,12 @@ pub fn argument(out: &mut Out, at: usize, s: &[u8], a: Argument) -> usize {
     let to = writer::labelled(out, from, b"-", a.end as u64);
     let placed = writer::byte(out, to, b' ');
     let typed = types::type_info(out, placed, info);
-    let named = label(out, typed, b" name=", s, its_name);
-    let measured = label(out, named, b" unit=", s, its_unit);
+    let named = writer::maybe_range(out, typed, b" name=", s, its_name);
+    let measured = writer::maybe_range(out, named, b" unit=", s, its_unit);
     let scaled = fixed_point(out, measured, its_point);
     let gap = writer::byte(out, scaled, b' ');
     let valued = value(out, gap, s, its_value);
     writer::byte(out, valued, b']')
-}
-
-// A name or a unit: `.TEXT`, or `-` where there is none.
-fn label(out: &mut Out, at: usize, front: &[u8], s: &[u8], text: OptRange) -> usize {
-    let done = writer::literal(out, at, front);
-    match text {
-        OptRange::Present(place) => range(out, done, b".", s, place),
-        OptRange::Absent => writer::byte(out, done, b'-'),
-    }
-}
-
-// A text with something in front.
-fn range(out: &mut Out, at: usize, front: &[u8], s: &[u8], place: Range) -> usize {
-    let done = writer::literal(out, at, front);
-    writer::text(out, done, s, place.start, place.len)
 }
 
 // Each signed number is shown as one of 64 bits.
@@ -95,8 +78,8 @@ fn value(out: &mut Out, at: usize, s: &[u8], v: Value) -> usize {
         Value::F32NotANumber(bits) => float(out, at, Real32::NotANumber(bits)),
         Value::F64(x) => long_float(out, at, Real64::Number(x)),
         Value::F64NotANumber(bits) => long_float(out, at, Real64::NotANumber(bits)),
-        Value::StringVal(place) => range(out, at, b"s:", s, place),
-        Value::Raw(place) => range(out, at, b"r:", s, place),
+        Value::StringVal(place) => writer::range(out, at, b"s:", s, place),
+        Value::Raw(place) => writer::range(out, at, b"r:", s, place),
     }
 }
 

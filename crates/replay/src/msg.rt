@@ -1,0 +1,68 @@
+// `msg STORAGE FILTER BYTES`: one message, dlt_message.
+use crate::digits;
+use crate::digits::Flag;
+use crate::fields;
+use crate::message;
+use crate::writer;
+use crate::writer::Out;
+use parse::GotParsed;
+use parse::MessageAns;
+use parse::ParsedMessage;
+
+// The answer to a request whose kind ends at `kind_end`.
+pub fn answer(
+    line: &[u8],
+    kind_end: usize,
+    body: &mut [u8],
+    filter: &mut [u8],
+    out: &mut Out,
+    at: usize,
+) -> usize {
+    let mode = fields::after(line, kind_end);
+    let chosen = fields::after(line, mode.end);
+    let bytes = fields::after(line, chosen.end);
+    if bytes.end != line.len() {
+        return writer::bad_request(out, at);
+    }
+    let n = digits::hex_bytes(line, bytes, body);
+    if body.len() < n {
+        return writer::bad_request(out, at);
+    }
+    let k = digits::hex_bytes(line, chosen, filter);
+    if filter.len() < k {
+        return writer::bad_request(out, at);
+    }
+    let s = digits::first(body, n);
+    let f = digits::first(filter, k);
+    match digits::storage(line, mode) {
+        Flag::Yes => shown(s, f, true, out, at),
+        Flag::No => shown(s, f, false, out, at),
+        Flag::Bad => writer::bad_request(out, at),
+    }
+}
+
+fn shown(s: &[u8], f: &[u8], with_storage_header: bool, out: &mut Out, at: usize) -> usize {
+    match parse::dlt_message(s, f, with_storage_header) {
+        MessageAns::BadFilter => writer::literal(out, at, b"1"),
+        MessageAns::Done(got) => parsed(s, got, out, at),
+        MessageAns::Need(need) => writer::need(out, at, need),
+        MessageAns::Hickup(reason) => writer::hickup(out, at, reason),
+        MessageAns::Broken => writer::literal(out, at, b"4"),
+    }
+}
+
+// A message that was read, or that the filter drops.
+fn parsed(s: &[u8], got: GotParsed, out: &mut Out, at: usize) -> usize {
+    let end = got.next;
+    let v = got.v;
+    match v {
+        ParsedMessage::Item(m) => {
+            let used = writer::labelled(out, at, b"0 item used=", end as u64);
+            message::message(out, used, s, m, end)
+        }
+        ParsedMessage::FilteredOut(n) => {
+            let used = writer::labelled(out, at, b"0 filtered used=", end as u64);
+            writer::labelled(out, used, b" plen=", n as u64)
+        }
+    }
+}
