@@ -1,5 +1,2 @@
 pub mod Reading
-pub mod At
-pub mod Laws
-pub mod Vectors
 pub mod Determined

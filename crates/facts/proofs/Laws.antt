@@ -29,9 +29,9 @@ use Rattle.filtering.specs.FilteredOut.{filteredOut}
 use Rattle.filtering.specs.declared.OptExtended.{OptExtended}
 use Rattle.filtering.proofs.Stable.{IdsIn, filtered-same}
 use Rattle.payload.proofs.Laws.{payload-law}
 use Rattle.parse.specs.Message.{havingFrom, seen, maybeExtended, headersOf, finished, headers, routed, passed, item, body, message}
 use Rattle.parse.specs.declared.Headers.{Headers}
-use Rattle.parse.proofs.At.{LawfulAt, lawful-at, at-lawful, then-at, seen-at, from-at}
+use Rattle.facts.proofs.At.{LawfulAt, lawful-at, at-lawful, then-at, seen-at, from-at}
 
 maybeExtended-law : (t : Bool) → Lawful (maybeExtended t)
 unfolding maybeExtended

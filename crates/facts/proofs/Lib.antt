@@ -1,0 +1,3 @@
+pub mod At
+pub mod Laws
+pub mod Vectors
