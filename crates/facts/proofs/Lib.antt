@@ -1,3 +1,4 @@
 pub mod At
 pub mod Laws
 pub mod Vectors
+pub mod Whole

@@ -103,3 +103,14 @@ pub sums :
     × (sum false (0x21 ∷ 0x00 ∷ 0x00 ∷ 0x0E ∷ 0x41 ∷ 0x01 ∷ 0x41 ∷ 0x50 ∷ 0x50 ∷ 0x00 ∷ 0x43 ∷ 0x54 ∷ 0x58 ∷ 0x00 ∷ 0x11 ∷ 0x00 ∷ 0x00 ∷ 0x00 ∷ 0x01 ∷ []) ≡ Sum.oneBool 1 19)  -- P12
 unfolding messageOf judged filterOf filter field tagNext sets counts lastCount ending filterWith message routed choose headers _>>=_ here standard number fixed having asking numberOf flagged maybeId maybeNumber identified text textOf validUpTo upTo sequence among formed ret refuse headerOf endianOf allHeaders overallLength headerTypeByte finished maybeExtended extended named extendedOf knownLevel logLevelOf messageTypeBy havingFrom seen headersOf filteredOut dropsPlain dropsExtended dropsLevel dropsId dropsEcu shortSet body item passed itemOf payload isVerbose isControl controlType networkType countOf isNetwork isBig verbose listOf control plain bytes fail storage marked find firstOf standsAt stored owned arguments times turn argument typeInfo decoded kinded boolean maybeName typeInfoOf kindBy codingOf numeric
 sums = (refl, refl, refl, refl, refl, refl, refl, refl, refl, refl, refl, refl, refl)
+
+-- P1 and P2 by name, and what P2's answer says, whatever bytes it is asked of
+abbrev pub p1 : List ℕ
+p1 = 0x20 ∷ 0x07 ∷ 0x00 ∷ 0x08 ∷ 0x00 ∷ 0x00 ∷ 0x00 ∷ 0x2A ∷ []
+
+abbrev pub p2 : List ℕ
+p2 = 0x22 ∷ 0x07 ∷ 0x00 ∷ 0x08 ∷ 0x00 ∷ 0x00 ∷ 0x00 ∷ 0x2A ∷ []
+
+pub p2-says : (s : List ℕ) → ofAnswer (messageOf [] false p2) s ≡ Sum.id 42 8
+unfolding messageOf judged filterOf filter field tagNext sets counts lastCount ending filterWith message routed choose headers _>>=_ here standard number fixed having asking numberOf flagged maybeId maybeNumber identified text textOf validUpTo upTo sequence among formed ret refuse headerOf endianOf allHeaders overallLength headerTypeByte finished maybeExtended extended named extendedOf knownLevel logLevelOf messageTypeBy havingFrom seen headersOf filteredOut dropsPlain dropsExtended dropsLevel dropsId dropsEcu shortSet body item passed itemOf payload isVerbose isControl controlType networkType countOf isNetwork isBig verbose listOf control plain bytes fail storage marked find firstOf standsAt stored owned arguments times turn argument typeInfo decoded kinded boolean maybeName typeInfoOf kindBy codingOf numeric
+p2-says s = refl
