@@ -74,7 +74,7 @@ standard-of-nothing s =
     let z : lacking 1 s (length s) ≡ 1 = omega arith in
     then-need _ _ s (length s) (fixed-need 1 _ s (length s) (omega arith)) ∙ ap need z
 
-headers-of-nothing : (f : List ℕ) (filter : Filter) (stored : OptStored) (s : List ℕ) → headers f filter stored s (length s) ≡ need 1
+pub headers-of-nothing : (f : List ℕ) (filter : Filter) (stored : OptStored) (s : List ℕ) → headers f filter stored s (length s) ≡ need 1
 unfolding headers
 headers-of-nothing f filter stored s =
     then-done here _ s (length s) (here-is s (length s)) ∙ then-need standard _ s (length s) (standard-of-nothing s)

@@ -10,6 +10,7 @@ use Rattle.wire.specs.Answer.{Ans, Parser}
 use Rattle.wire.specs.Answer.Ans.{done, need, hickup, broken}
 use Rattle.wire.specs.Parser.{pick, follow, _>>=_, ret, refuse, choose, asking, having, fixed, lacking}
 use Rattle.wire.specs.Number.{numberOf, number}
+use Rattle.wire.specs.Run.{range, bytes}
 use Rattle.wire.specs.declared.Range.{Range}
 use Rattle.strings.specs.Text.{textOf, textNeed, text, identified}
 use Rattle.strings.proofs.Strings.{text-within, identified-law}
@@ -78,6 +79,10 @@ module _ {A : Type 0} (s : List ℕ) (at : ℕ) where
 pub of-number : {v n : ℕ} (big : Bool) (w : ℕ) (s : List ℕ) (at : ℕ) → number big w s at ≡ done v n → (v ≡ numberOf big w s at) × (n ≡ at + w)
 unfolding number fixed having
 of-number big w s at e = of-asking s at w (lacking w) (numberOf big w) e
+
+pub of-bytes : {v : Range} {n : ℕ} (w : ℕ) (s : List ℕ) (at : ℕ) → bytes w s at ≡ done v n → (v ≡ range at w) × (n ≡ at + w)
+unfolding bytes fixed having
+of-bytes w s at e = of-asking s at w (lacking w) (λ s at. range at w) e
 
 pub of-id : {v : Range} {n : ℕ} (s : List ℕ) (at : ℕ) → identified s at ≡ done v n → (v ≡ textOf 4 s at) × (n ≡ at + 4)
 unfolding identified text
