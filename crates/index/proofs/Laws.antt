@@ -1,0 +1,79 @@
+-- The cases of a call, and what its loop keeps, for any form of the table. Assumes nothing.
+use Prim.Native.Nat.{ℕ, suc, _+_, _-_, _*_, _≤_, _<_}
+use mathlib.Core.Path.{_≡_, refl, sym, ap, _∙_}
+use mathlib.Core.Bool.{Bool, true, false}
+use mathlib.Core.List.{List, [], _∷_}
+use native.Mathlib.Nat.{add-zero, sub-zero}
+use native.Mathlib.Numerals.{add-one, add-two, add-three}
+use native.Mathlib.Omega.{arith}
+use lib.ListN.{length, take, drop, set, length-drop}
+use lib.Seq.{take-all}
+use lib.Dec.{ltb}
+use borrow.Author.Tests.{lt-ltb, le-ltb, ltb-true, ltb-false}
+use Rattle.table.specs.Over.{over}
+use Rattle.table.proofs.Laws.{stores}
+use Rattle.walk.specs.Table.{Done}
+use Rattle.walk.proofs.Going.{here, Going}
+use Rattle.filter.specs.Filter.{filterOf}
+use Rattle.filter.specs.declared.Filter.{Filter}
+use Rattle.filter.specs.declared.FilterAns.{FilterAns}
+use Rattle.step.specs.Step.{asked}
+use Rattle.index.specs.Index.{limit, Form, Outcome, refused, shown, ahead, checked, judged, call}
+use Rattle.index.specs.declared.State.{State}
+use Rattle.index.specs.declared.End.{End}
+
+-- ---- the cases of a call
+module _ {A : Type 0} (form : Form A) (f s : List ℕ) (st : State) (T : List A) where
+  pub bad-filter : (v : FilterAns) → v ≡ filterOf f → v ≡ FilterAns.Bad → call form f s st T ≡ refused st T End.BadFilter
+  unfolding call judged
+  bad-filter v e q = rw (sym e ∙ q)
+
+  pub good-filter : (v : FilterAns) (filter : Filter) → v ≡ filterOf f → v ≡ FilterAns.Good filter → call form f s st T ≡ checked form f filter s st T
+  unfolding call judged
+  good-filter v filter e q = rw (sym e ∙ q)
+
+  module _ (filter : Filter) where
+    pub bad-state : form .holds (length T) < st .used → checked form f filter s st T ≡ refused st T End.BadState
+    unfolding checked
+    bad-state h = simp (lt-ltb _ _ h)
+
+    pub too-long : st .used ≤ form .holds (length T) → ltb limit (st .at + length s) ≡ true → checked form f filter s st T ≡ refused st T End.TooLong
+    unfolding checked
+    too-long h g = simp (le-ltb _ _ h, g)
+
+    pub goes-ahead : st .used ≤ form .holds (length T) → ltb limit (st .at + length s) ≡ false → checked form f filter s st T ≡ ahead form f filter s st T
+    unfolding checked
+    goes-ahead h g = simp (le-ltb _ _ h, g)
+
+    pub ahead-is : ahead form f filter s st T ≡ shown (here (asked f filter) (form .width) (form .cells) s (form .holds (length T)) (st .at) (suc (length s)) T (st .used) 0)
+    unfolding ahead here
+    ahead-is = simp add-zero
+
+-- ---- the loop's invariant, at this rule and a form
+abbrev pub Kept : {A : Type 0} → Form A → List ℕ → Filter → List ℕ → ℕ → ℕ → List A → ℕ → List A → ℕ → ℕ → Type 0
+Kept form f filter s size from T₀ used₀ T used at =
+    Going (asked f filter) (form .width) (form .cells) s size from (suc (length s)) T₀ used₀ (suc (length s - at)) T used at
+
+pub starts : {A : Type 0} (form : Form A) (f : List ℕ) (filter : Filter) (s : List ℕ) (size from : ℕ) (T : List A) (used : ℕ) → used ≤ size
+    → Kept form f filter s size from T used T used 0
+starts form f filter s size from T used h = rw sub-zero (record { within = omega arith; room = h; as-long = refl; same = refl })
+
+-- four stores
+pub put-over : (T : List ℕ) (u a b c d : ℕ) → 4 * u + 4 ≤ length T
+    → set (set (set (set T (4 * u) a) (4 * u + 1) b) (4 * u + 2) c) (4 * u + 3) d ≡ over T (4 * u) (a ∷ b ∷ c ∷ d ∷ [])
+put-over T u a b c d h = rw (add-one (4 * u), add-two (4 * u), add-three (4 * u)) (stores T (4 * u) (a ∷ b ∷ c ∷ d ∷ []) h)
+
+-- the part &s[i..], as the code's slice has it
+pub tail-part : (s : List ℕ) (i : ℕ) → take (length s - i) (drop i s) ≡ drop i s
+tail-part s i = take-all (length s - i) (drop i s) (omega (arith, length-drop i s))
+
+-- a sum over a bound, without the sum
+pub split-sum : (bound a n : ℕ) → a ≤ bound → ltb (bound - a) n ≡ ltb bound (a + n)
+split-sum bound a n h = by (ltb (bound - a) n) refl
+  where
+    by : (b : Bool) → ltb (bound - a) n ≡ b → b ≡ ltb bound (a + n)
+    by true e = let g : bound - a < n = ltb-true (bound - a) n e in sym (lt-ltb bound (a + n) (omega arith))
+    by false e = let g : n ≤ bound - a = ltb-false (bound - a) n e in sym (le-ltb bound (a + n) (omega arith))
+
+pub over-by-itself : (bound a n : ℕ) → bound < a → true ≡ ltb bound (a + n)
+over-by-itself bound a n h = sym (lt-ltb bound (a + n) (omega arith))

@@ -1,0 +1,95 @@
+-- Document 01, "The trace index": the call. The refusals in their order, and then the walk, laid down in the table.
+use Prim.Native.Nat.{ℕ, _+_, _*_, _/_, _≤_}
+use mathlib.Core.Path.{_≡_}
+use mathlib.Core.List.{List, [], _∷_}
+use lib.ListN.{length}
+use lib.Dec.{ltb}
+use Rattle.wire.specs.Parser.{pick}
+use Rattle.filter.specs.Filter.{filterOf}
+use Rattle.filter.specs.declared.Filter.{Filter}
+use Rattle.filter.specs.declared.FilterAns.{FilterAns}
+use Rattle.walk.specs.Walk.{Entry, Ends, Out, walk}
+use Rattle.walk.specs.Table.{Done, finish}
+use Rattle.step.specs.Step.{asked}
+use Rattle.index.specs.declared.State.{State}
+use Rattle.index.specs.declared.Indexed.{Indexed}
+use Rattle.index.specs.declared.End.{End}
+
+-- resume position plus bytes given may not exceed this
+abbrev pub limit : ℕ
+limit = 4294967295
+
+-- how entries lie in a table: so many elements to an entry, which ones, and how many entries a table of n elements holds
+pub record Form (A : Type 0) : Type 0 where
+  pub width : ℕ
+  pub cells : Entry ℕ → List A
+  pub holds : ℕ → ℕ
+
+-- what is asked of a form
+pub record Sound {A : Type 0} (form : Form A) : Type 0 where
+  pub wide : (e : Entry ℕ) → length (form .cells e) ≡ form .width
+  pub fits : (n : ℕ) → form .width * form .holds n ≤ n
+
+-- a flat table of numbers: start, skipped, length, kind; a last piece of fewer than four holds no entry
+abbrev pub flatForm : Form ℕ
+flatForm = record { width = 4; cells = λ e. e .start ∷ e .skipped ∷ e .len ∷ e .info ∷ []; holds = λ n. n / 4 }
+
+-- document 01's numbers of the answers, and what they carry besides the state
+abbrev pub numberOf : End → ℕ
+numberOf End.BadFilter = 1
+numberOf End.BadState = 5
+numberOf End.TooLong = 6
+numberOf End.Full = 7
+numberOf (End.Waits need) = 0
+
+abbrev pub needOf : End → ℕ
+needOf End.BadFilter = 0
+needOf End.BadState = 0
+needOf End.TooLong = 0
+needOf End.Full = 0
+needOf (End.Waits need) = need
+
+-- the call's answer for the walk's: with no limit Paused is never said, so what stands there is of no account
+abbrev pub endOf : Ends ℕ → End
+endOf Ends.Paused = End.Full
+endOf Ends.Full = End.Full
+endOf (Ends.Waits need) = End.Waits need
+
+-- all that a call determines: its answer, and the table as it leaves it
+pub record Outcome (A : Type 0) : Type 0 where
+  pub answer : Indexed
+  pub table : List A
+
+abbrev pub shown : {A : Type 0} → Done ℕ A → Outcome A
+shown d = record { answer = record { state = record { at = d .at; used = d .used }; end = endOf (d .ends) }; table = d .table }
+
+-- a refusal hands back the state that it was given, and the table stays
+abbrev pub refused : {A : Type 0} → State → List A → End → Outcome A
+refused st T e = record { answer = record { state = st; end = e }; table = T }
+
+-- the walk of a call, over a table that holds so many entries
+abbrev pub walkOf : List ℕ → Filter → List ℕ → State → ℕ → Out ℕ ℕ
+walkOf f filter s st size = walk (asked f filter) size (st .at) (st .used) s
+
+-- the walk, laid down in the table
+unfoldable pub ahead : {A : Type 0} → Form A → List ℕ → Filter → List ℕ → State → List A → Outcome A
+ahead form f filter s st T = shown (finish (form .width) (form .cells) T (st .used) (walkOf f filter s st (form .holds (length T))))
+
+-- BadState: more entries used than the table holds. TooLong. Then the walk
+unfoldable pub checked : {A : Type 0} → Form A → List ℕ → Filter → List ℕ → State → List A → Outcome A
+checked form f filter s st T =
+    pick (ltb (form .holds (length T)) (st .used)) (refused st T End.BadState)
+    (pick (ltb limit (st .at + length s)) (refused st T End.TooLong)
+    (ahead form f filter s st T))
+
+-- BadFilter comes before all
+unfoldable pub judged : {A : Type 0} → Form A → List ℕ → List ℕ → State → List A → FilterAns → Outcome A
+judged form f s st T (FilterAns.Good filter) = checked form f filter s st T
+judged form f s st T FilterAns.Bad = refused st T End.BadFilter
+
+-- the call: the filter's bytes, the bytes from the resume position on, the state, the table
+unfoldable pub call : {A : Type 0} → Form A → List ℕ → List ℕ → State → List A → Outcome A
+call form f s st T = judged form f s st T (filterOf f)
+
+abbrev pub outcome : List ℕ → List ℕ → State → List ℕ → Outcome ℕ
+outcome = call flatForm

@@ -1,0 +1,134 @@
+// The trace index: the call over a lent flat table, four numbers to an entry. The caller owns the bytes and the table; the call is given the bytes
+// from the resume position on, and hands back where the next call goes on.
+ghost use mathlib.Core.Path.{_≡_};
+ghost use mathlib.Core.List.{[], _∷_};
+ghost use Prim.Native.Nat.{_+_, _*_, _/_, _≤_};
+ghost use lib.ListN.{length, drop};
+ghost use lib.Dec.{ltb};
+ghost use Rattle.table.specs.Over.{over};
+ghost use Rattle.step.specs.Step.{asked, stepOf};
+ghost use Rattle.index.specs.Index.{limit, Outcome, flatForm, ahead, checked, outcome};
+use filter::Filter;
+use filter::FilterAns;
+use step::Heard;
+
+// Where the next call goes on, and how many entries of the table are used. Both are 0 when fresh.
+pub struct State {
+    pub at: usize,
+    pub used: usize,
+}
+
+// How a call ended: refused, or its walk is at a full table, or waits for so many bytes (0 for unknown).
+pub enum End {
+    BadFilter,
+    BadState,
+    TooLong,
+    Full,
+    Waits(usize),
+}
+
+pub struct Indexed {
+    pub state: State,
+    pub end: End,
+}
+
+// What the message rule says of the bytes from `at` on.
+fn ask_at(s: &[u8], at: usize, f: &[u8], filter: Filter) -> Heard
+    requires { ⌜ at ≤ length (now s) ⌝ }
+    ensures { λ r. ⌜ stepOf r ≡ asked (now (f .entry)) filter (drop at (now (s .entry))) ⌝ }
+{
+    step::ask(&s[at..], f, filter)
+}
+
+// Writes an entry's four numbers at its place.
+fn put(table: &mut [u64], used: usize, start: usize, skipped: usize, len: usize, kind: u64)
+    requires { ⌜ 4 * used + 4 ≤ length (now table) ⌝ }
+    ensures { λ _. ⌜ now (table .exit) ≡ over (now (table .entry)) (4 * used) (start ∷ skipped ∷ len ∷ kind ∷ []) ⌝ }
+{
+    let i = 4 * used;
+    table[i] = start as u64;
+    table[i + 1] = skipped as u64;
+    table[i + 2] = len as u64;
+    table[i + 3] = kind;
+}
+
+// Whether a trace of `n` bytes behind `from` is over the limit.
+fn too_long(from: usize, n: usize) -> bool
+    ensures { λ r. ⌜ r ≡ ltb limit (from + n) ⌝ }
+{
+    if 4294967295 < from {
+        return true;
+    }
+    4294967295 - from < n
+}
+
+// The walk, from a state that fits the table and over bytes that are not too many.
+fn walk_on(s: &[u8], f: &[u8], filter: Filter, state: State, table: &mut [u64]) -> Indexed
+    requires { ⌜ (state .used ≤ length (now table) / 4) × (state .at + length (now s) ≤ limit) ⌝ }
+    ensures { λ r. ⌜ ahead flatForm (now (f .entry)) filter (now (s .entry)) state (now (table .entry)) ≡ record { answer = r; table = now (table .exit) } ⌝ }
+{
+    let size = table.len() / 4;
+    let from = state.at;
+    let mut used = state.used;
+    let mut at = 0;
+    loop {
+        match ask_at(s, at, f, filter) {
+            Heard::Wait(need) => {
+                return Indexed {
+                    state: State {
+                        at: from + at,
+                        used,
+                    },
+                    end: End::Waits(need),
+                };
+            }
+            Heard::Take { skipped, len, kind } => {
+                if size <= used {
+                    return Indexed {
+                        state: State {
+                            at: from + at,
+                            used,
+                        },
+                        end: End::Full,
+                    };
+                }
+                put(table, used, from + at + skipped, skipped, len, kind);
+                used += 1;
+                at += skipped + len;
+            }
+        }
+    }
+}
+
+// The state is checked, then the length, and then it walks.
+fn index_with(s: &[u8], f: &[u8], filter: Filter, state: State, table: &mut [u64]) -> Indexed
+    ensures { λ r. ⌜ checked flatForm (now (f .entry)) filter (now (s .entry)) state (now (table .entry)) ≡ record { answer = r; table = now (table .exit) } ⌝ }
+{
+    if table.len() / 4 < state.used {
+        return Indexed {
+            state,
+            end: End::BadState,
+        };
+    }
+    if too_long(state.at, s.len()) {
+        return Indexed {
+            state,
+            end: End::TooLong,
+        };
+    }
+    walk_on(s, f, filter, state, table)
+}
+
+// The index call. `s` is given from the resume position on; an entry is start, bytes skipped, length, kind; what is left of the table behind its last
+// whole entry is never written.
+pub fn index(s: &[u8], f: &[u8], state: State, table: &mut [u64]) -> Indexed
+    ensures { λ r. ⌜ outcome (now (f .entry)) (now (s .entry)) state (now (table .entry)) ≡ record { answer = r; table = now (table .exit) } ⌝ }
+{
+    match filter::read_filter(f) {
+        FilterAns::Good(filter) => index_with(s, f, filter, state, table),
+        FilterAns::Bad => Indexed {
+            state,
+            end: End::BadFilter,
+        },
+    }
+}
