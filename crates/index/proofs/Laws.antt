@@ -21,6 +21,7 @@ use Rattle.step.specs.Step.{asked}
 use Rattle.index.specs.Index.{limit, Form, Outcome, refused, shown, ahead, checked, judged, call}
 use Rattle.index.specs.declared.State.{State}
 use Rattle.index.specs.declared.End.{End}
+use Rattle.index.specs.declared.Indexed.{Indexed}
 
 -- ---- the cases of a call
 module _ {A : Type 0} (form : Form A) (f s : List ℕ) (st : State) (T : List A) where
@@ -48,6 +49,10 @@ module _ {A : Type 0} (form : Form A) (f s : List ℕ) (st : State) (T : List A)
     pub ahead-is : ahead form f filter s st T ≡ shown (here (asked f filter) (form .width) (form .cells) s (form .holds (length T)) (st .at) (suc (length s)) T (st .used) 0)
     unfolding ahead here
     ahead-is = simp add-zero
+
+-- the answer that a call built
+pub with-answer : {A : Type 0} (T : List A) {r a : Indexed} → r ≡ a → _≡_ {A = Outcome A} (record { answer = a; table = T }) (record { answer = r; table = T })
+with-answer T e = rw e
 
 -- ---- the loop's invariant, at this rule and a form
 abbrev pub Kept : {A : Type 0} → Form A → List ℕ → Filter → List ℕ → ℕ → ℕ → List A → ℕ → List A → ℕ → ℕ → Type 0

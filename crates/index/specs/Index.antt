@@ -60,8 +60,12 @@ pub record Outcome (A : Type 0) : Type 0 where
   pub answer : Indexed
   pub table : List A
 
+-- where a walk stops
+abbrev pub stopped : ℕ → ℕ → End → Indexed
+stopped at used e = record { state = record { at = at; used = used }; end = e }
+
 abbrev pub shown : {A : Type 0} → Done ℕ A → Outcome A
-shown d = record { answer = record { state = record { at = d .at; used = d .used }; end = endOf (d .ends) }; table = d .table }
+shown d = record { answer = stopped (d .at) (d .used) (endOf (d .ends)); table = d .table }
 
 -- a refusal hands back the state that it was given, and the table stays
 abbrev pub refused : {A : Type 0} → State → List A → End → Outcome A

@@ -7,7 +7,8 @@ ghost use lib.ListN.{length, drop};
 ghost use lib.Dec.{ltb};
 ghost use Rattle.table.specs.Over.{over};
 ghost use Rattle.step.specs.Step.{asked, stepOf};
-ghost use Rattle.index.specs.Index.{limit, Outcome, flatForm, ahead, checked, outcome};
+ghost use Rattle.index.specs.declared.End.{End};
+ghost use Rattle.index.specs.Index.{limit, Outcome, stopped, flatForm, ahead, checked, outcome};
 use filter::Filter;
 use filter::FilterAns;
 use step::Heard;
@@ -62,6 +63,26 @@ fn too_long(from: usize, n: usize) -> bool
     4294967295 - from < n
 }
 
+// Where a walk stops for want of bytes.
+fn waiting(at: usize, used: usize, need: usize) -> Indexed
+    ensures { λ r. ⌜ r ≡ stopped at used (End.Waits need) ⌝ }
+{
+    Indexed {
+        state: State { at, used },
+        end: End::Waits(need),
+    }
+}
+
+// Where it stops for want of a place.
+fn full(at: usize, used: usize) -> Indexed
+    ensures { λ r. ⌜ r ≡ stopped at used End.Full ⌝ }
+{
+    Indexed {
+        state: State { at, used },
+        end: End::Full,
+    }
+}
+
 // The walk, from a state that fits the table and over bytes that are not too many.
 fn walk_on(s: &[u8], f: &[u8], filter: Filter, state: State, table: &mut [u64]) -> Indexed
     requires { ⌜ (state .used ≤ length (now table) / 4) × (state .at + length (now s) ≤ limit) ⌝ }
@@ -73,24 +94,10 @@ fn walk_on(s: &[u8], f: &[u8], filter: Filter, state: State, table: &mut [u64]) 
     let mut at = 0;
     loop {
         match ask_at(s, at, f, filter) {
-            Heard::Wait(need) => {
-                return Indexed {
-                    state: State {
-                        at: from + at,
-                        used,
-                    },
-                    end: End::Waits(need),
-                };
-            }
+            Heard::Wait(need) => return waiting(from + at, used, need),
             Heard::Take { skipped, len, kind } => {
                 if size <= used {
-                    return Indexed {
-                        state: State {
-                            at: from + at,
-                            used,
-                        },
-                        end: End::Full,
-                    };
+                    return full(from + at, used);
                 }
                 put(table, used, from + at + skipped, skipped, len, kind);
                 used += 1;

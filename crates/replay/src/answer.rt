@@ -5,6 +5,7 @@ use crate::args;
 use crate::consume;
 use crate::fields;
 use crate::fwd;
+use crate::indexed;
 use crate::len;
 use crate::mi;
 use crate::msg;
@@ -61,6 +62,9 @@ fn by_kind(
     }
     if fields::is(line, kind, b"args") {
         return args::answer(line, end, body, words, out, at);
+    }
+    if fields::is(line, kind, b"index") {
+        return indexed::answer(line, end, body, filter, out, at);
     }
     by_small_kind(line, body, out, at)
 }

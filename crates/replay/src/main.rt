@@ -2,7 +2,7 @@
 // a line, and writes an answer line to each. A line that is no request is answered `bad request`.
 //
 // - lines: reads blocks and finds the lines. The only loop over the input.
-// - answer: the line of one request, by its kind. zts, fwd, skip, consume, len, mi, ti, msg, args: the kinds.
+// - answer: the line of one request, by its kind. zts, fwd, skip, consume, len, mi, ti, msg, args, indexed: the kinds.
 // - types, argument, contents, message: message types, type infos, arguments, payloads and messages as answers show them.
 // - fields, digits: the words of a line, and the numbers and bytes in them.
 // - writer: text, numbers and bytes into a buffer that is written out whenever it is full.
@@ -19,6 +19,7 @@ mod contents;
 mod digits;
 mod fields;
 mod fwd;
+mod indexed;
 mod len;
 mod lines;
 mod message;

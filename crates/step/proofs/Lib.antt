@@ -1,3 +1,4 @@
 pub mod Place
 pub mod Fair
 pub mod Reading
+pub mod Determined

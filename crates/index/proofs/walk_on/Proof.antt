@@ -13,7 +13,7 @@ use Rattle.filter.specs.declared.Filter.{Filter}
 use Rattle.step.specs.Step.{asked, stepOf}
 use Rattle.step.proofs.Fair.{fair}
 use Rattle.index.specs.Index.{flatForm, shown}
-use Rattle.index.proofs.Laws.{Kept, starts, ahead-is}
+use Rattle.index.proofs.Laws.{Kept, starts, ahead-is, with-answer}
 use Rattle.index.proofs.walk_on.Statement.{statement}
 use Rattle.index.proofs.walk_on.Tie as tie
 
@@ -65,8 +65,11 @@ ask-at-requires c κs = search needs
 enum-known-need : tie.Need-enum-known-need Inv-loop μ-loop
 enum-known-need c = search needs
 
-add-t16 : tie.Need-add-t16 Inv-loop μ-loop
-add-t16 c = search needs
+add-waiting : tie.Need-add-waiting Inv-loop μ-loop
+add-waiting c = search needs
+
+waiting-requires : tie.Need-waiting-requires Inv-loop μ-loop
+waiting-requires c κs = search needs
 
 same-length : tie.Need-same-length Inv-loop μ-loop
 same-length c = search needs
@@ -75,16 +78,20 @@ returns : tie.Need-returns Inv-loop μ-loop
 returns c =
     ahead-is flatForm _ _ _ _ _
     ∙ ap shown
-    (ends-waiting 4 (flatForm .cells) (λ e. refl) (asked _ _) (fair _ _) _ _ _ _ _ _ (c .before .before .before .before .loop .inv)
-    (sym (c .before .before .before .ask-at .ensures) ∙ ap stepOf (c .before .need .given .1)))
+    (ends-waiting 4 (flatForm .cells) (λ e. refl) (asked _ _) (fair _ _) _ _ _ _ _ _ (c .before .before .before .before .before .loop .inv)
+    (sym (c .before .before .before .before .ask-at .ensures) ∙ ap stepOf (c .before .before .need .given .1)))
+    ∙ with-answer _ (c .waiting .ensures)
 
 -- no place is free
 
 enum-known-skipped : tie.Need-enum-known-skipped Inv-loop μ-loop
 enum-known-skipped c = search needs
 
-add-t20 : tie.Need-add-t20 Inv-loop μ-loop
-add-t20 c = search needs
+add-full : tie.Need-add-full Inv-loop μ-loop
+add-full c = search needs
+
+full-requires : tie.Need-full-requires Inv-loop μ-loop
+full-requires c κs = search needs
 
 same-length-2 : tie.Need-same-length-2 Inv-loop μ-loop
 same-length-2 c = search needs
@@ -93,8 +100,9 @@ returns-2 : tie.Need-returns-2 Inv-loop μ-loop
 returns-2 c =
     ahead-is flatForm _ _ _ _ _
     ∙ ap shown
-    (ends-full 4 (flatForm .cells) (λ e. refl) (asked _ _) (fair _ _) _ _ _ _ _ _ (c .before .before .before .before .before .loop .inv)
-    (takes (c .before .before)) (omega arith))
+    (ends-full 4 (flatForm .cells) (λ e. refl) (asked _ _) (fair _ _) _ _ _ _ _ _ (c .before .before .before .before .before .before .loop .inv)
+    (takes (c .before .before .before)) (omega arith))
+    ∙ with-answer _ (c .full .ensures)
 
 -- an entry is written, and it goes on
 
@@ -136,11 +144,13 @@ walk-on-spec =
     loop-holds
     ask-at-requires
     enum-known-need
-    add-t16
+    add-waiting
+    waiting-requires
     same-length
     returns
     enum-known-skipped
-    add-t20
+    add-full
+    full-requires
     same-length-2
     returns-2
     add-put

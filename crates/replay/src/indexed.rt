@@ -1,0 +1,186 @@
+// `index CAP RESUME USED FILTER BYTES`: the trace index, over a table of CAP entries.
+ghost use mathlib.Core.Path.{_≡_};
+ghost use lib.ListN.{length};
+use crate::digits;
+use crate::digits::Number;
+use crate::fields;
+use crate::writer;
+use crate::writer::Out;
+use index::End;
+use index::Indexed;
+use index::State;
+
+// How many entries a table has at most.
+const MOST: u64 = 4096;
+
+// Room for the numbers of so many entries.
+fn table_room() -> [u64; 16384]
+    ensures { λ r. ⌜ 16384 ≡ length r ⌝ }
+{
+    [0; 16384]
+}
+
+// What a call is given besides bytes: how many entries the table has, and the state.
+struct Request {
+    cap: u64,
+    state: State,
+}
+
+enum Asked {
+    Good(Request),
+    Bad,
+}
+
+fn request(cap: Number, resume: Number, used: Number) -> Asked {
+    let c = match cap {
+        Number::Value(c) => c,
+        Number::Bad => return Asked::Bad,
+    };
+    let r = match resume {
+        Number::Value(r) => r,
+        Number::Bad => return Asked::Bad,
+    };
+    let u = match used {
+        Number::Value(u) => u,
+        Number::Bad => return Asked::Bad,
+    };
+    if MOST < c {
+        return Asked::Bad;
+    }
+    Asked::Good(Request {
+        cap: c,
+        state: State {
+            at: r as usize,
+            used: u as usize,
+        },
+    })
+}
+
+// The three numbers of a request, and where its filter begins.
+struct Front {
+    asked: Asked,
+    end: usize,
+}
+
+fn front(line: &[u8], kind_end: usize) -> Front {
+    let cap = fields::after(line, kind_end);
+    let resume = fields::after(line, cap.end);
+    let used = fields::after(line, resume.end);
+    let c = digits::decimal(line, cap);
+    let r = digits::decimal(line, resume);
+    let u = digits::decimal(line, used);
+    let asked = request(c, r, u);
+    Front {
+        asked: asked,
+        end: used.end,
+    }
+}
+
+// The answer to a request whose kind ends at `kind_end`.
+pub fn answer(
+    line: &[u8],
+    kind_end: usize,
+    body: &mut [u8],
+    filter: &mut [u8],
+    out: &mut Out,
+    at: usize,
+) -> usize {
+    let numbers = front(line, kind_end);
+    let chosen = fields::after(line, numbers.end);
+    let bytes = fields::after(line, chosen.end);
+    if bytes.end != line.len() {
+        return writer::bad_request(out, at);
+    }
+    let n = digits::hex_bytes(line, bytes, body);
+    if body.len() < n {
+        return writer::bad_request(out, at);
+    }
+    let k = digits::hex_bytes(line, chosen, filter);
+    if filter.len() < k {
+        return writer::bad_request(out, at);
+    }
+    let s = digits::first(body, n);
+    let f = digits::first(filter, k);
+    let asked = numbers.asked;
+    match asked {
+        Asked::Good(request) => shown(s, f, request, out, at),
+        Asked::Bad => writer::bad_request(out, at),
+    }
+}
+
+fn shown(s: &[u8], f: &[u8], request: Request, out: &mut Out, at: usize) -> usize {
+    let mut table = table_room();
+    let state = request.state;
+    let cap = request.cap;
+    if MOST < cap {
+        return at;
+    }
+    let size = 4 * cap as usize;
+    let got = index::index(s, f, state, &mut table[..size]);
+    let after = got.state;
+    let end = got.end;
+    let head = ending(out, at, end, after);
+    entries(out, head, &table, state.used, after.used)
+}
+
+// The number, the state and the need.
+fn ending(out: &mut Out, at: usize, end: End, state: State) -> usize {
+    match end {
+        End::BadFilter => refused(out, at, b"1", state),
+        End::BadState => refused(out, at, b"5", state),
+        End::TooLong => refused(out, at, b"6", state),
+        End::Full => refused(out, at, b"7", state),
+        End::Waits(need) => {
+            let first = literal_state(out, at, b"0", state);
+            writer::labelled(out, first, b" need=", need as u64)
+        }
+    }
+}
+
+fn refused(out: &mut Out, at: usize, number: &[u8], state: State) -> usize {
+    let first = literal_state(out, at, number, state);
+    writer::literal(out, first, b" need=-")
+}
+
+fn literal_state(out: &mut Out, at: usize, number: &[u8], state: State) -> usize {
+    let first = writer::literal(out, at, number);
+    let resume = writer::labelled(out, first, b" resume=", state.at as u64);
+    writer::labelled(out, resume, b" used=", state.used as u64)
+}
+
+// The entries from `from` up to `to`.
+fn entries(out: &mut Out, at: usize, table: &[u64], from: usize, to: usize) -> usize {
+    let mut done = at;
+    let mut i = from;
+    while i < to && i < 4096 {
+        if table.len() < 4 * i + 4 {
+            return done;
+        }
+        done = entry(out, done, &table[4 * i..4 * i + 4]);
+        i += 1;
+    }
+    done
+}
+
+fn entry(out: &mut Out, at: usize, e: &[u64]) -> usize {
+    if e.len() < 4 {
+        return at;
+    }
+    let start = writer::labelled(out, at, b" (", e[0]);
+    let skipped = writer::labelled(out, start, b" ", e[1]);
+    let length = writer::labelled(out, skipped, b" ", e[2]);
+    kind(out, length, e[3])
+}
+
+fn kind(out: &mut Out, at: usize, kind: u64) -> usize {
+    if kind == 0 {
+        return writer::literal(out, at, b" item)");
+    }
+    if kind == 1 {
+        return writer::literal(out, at, b" filtered)");
+    }
+    if kind == 2 {
+        return writer::literal(out, at, b" hickup)");
+    }
+    writer::literal(out, at, b" unrecoverable)")
+}
