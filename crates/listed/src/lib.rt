@@ -75,15 +75,25 @@ fn kind(k: u64) {
     io::write_all(STDOUT_FILENO, b"unrecoverable\n");
 }
 
+fn entry(e: &[u64]) {
+    if e.len() < 4 {
+        return;
+    }
+    number(e[0], b" ");
+    number(e[1], b" ");
+    number(e[2], b" ");
+    kind(e[3]);
+}
+
 // The lines of the first `used` entries.
 fn entries(table: &[u64], used: usize) {
     let mut i = 0;
-    while i + 4 <= table.len() && i / 4 < used {
-        number(table[i], b" ");
-        number(table[i + 1], b" ");
-        number(table[i + 2], b" ");
-        kind(table[i + 3]);
-        i += 4;
+    while i < used {
+        if table.len() / 4 <= i {
+            return;
+        }
+        entry(&table[4 * i..4 * i + 4]);
+        i += 1;
     }
 }
 
@@ -113,14 +123,19 @@ fn show(s: &[u8]) {
     ending(end, state);
 }
 
+// The listing of the first `n` bytes.
+fn show_first(s: &[u8], n: usize) {
+    if n <= s.len() {
+        show(&s[..n]);
+    }
+}
+
 // Prints the listing of what `fd` has. Longer input prints one line only; a read that fails prints one line on standard error.
 pub fn list(fd: i32) {
     let mut buf = io::large_buffer();
     match gather(fd, &mut buf) {
         Input::Bytes(n) => {
-            if n <= 65536 {
-                show(&buf[..n]);
-            }
+            show_first(&buf, n);
         }
         Input::Longer => {
             io::write_all(STDOUT_FILENO, b"refused: over 65536\n");
