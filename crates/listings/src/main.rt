@@ -13,9 +13,9 @@ fn listed_file(path: &[u8]) {
 }
 
 fn main() {
-    listed_file(b"data/first30.dlt");
-    listed_file(b"data/empty.dlt");
-    listed_file(b"data/full.dlt");
-    listed_file(b"data/over.dlt");
-    listed_file(b"data/missing.dlt");
+    listed_file(b"first30.dlt");
+    listed_file(b"empty.dlt");
+    listed_file(b"full.dlt");
+    listed_file(b"over.dlt");
+    listed_file(b"missing.dlt");
 }

@@ -31,7 +31,7 @@ enum Asked {
     Bad,
 }
 
-fn request(cap: Number, resume: Number, used: Number) -> Asked {
+fn request_of(cap: Number, resume: Number, used: Number) -> Asked {
     let c = match cap {
         Number::Value(c) => c,
         Number::Bad => return Asked::Bad,
@@ -62,14 +62,14 @@ struct Front {
     end: usize,
 }
 
-fn front(line: &[u8], kind_end: usize) -> Front {
+fn front_of(line: &[u8], kind_end: usize) -> Front {
     let cap = fields::after(line, kind_end);
     let resume = fields::after(line, cap.end);
     let used = fields::after(line, resume.end);
     let c = digits::decimal(line, cap);
     let r = digits::decimal(line, resume);
     let u = digits::decimal(line, used);
-    let asked = request(c, r, u);
+    let asked = request_of(c, r, u);
     Front {
         asked: asked,
         end: used.end,
@@ -85,7 +85,7 @@ pub fn answer(
     out: &mut Out,
     at: usize,
 ) -> usize {
-    let numbers = front(line, kind_end);
+    let numbers = front_of(line, kind_end);
     let chosen = fields::after(line, numbers.end);
     let bytes = fields::after(line, chosen.end);
     if bytes.end != line.len() {
@@ -110,17 +110,32 @@ pub fn answer(
 
 fn shown(s: &[u8], f: &[u8], request: Request, out: &mut Out, at: usize) -> usize {
     let mut table = table_room();
+    called(s, f, request, &mut table, out, at)
+}
+
+// The call over the first entries of the table, as many as were asked for.
+fn called(
+    s: &[u8],
+    f: &[u8],
+    request: Request,
+    table: &mut [u64],
+    out: &mut Out,
+    at: usize,
+) -> usize {
     let state = request.state;
     let cap = request.cap;
     if MOST < cap {
         return at;
     }
     let size = 4 * cap as usize;
+    if table.len() < size {
+        return at;
+    }
     let got = index::index(s, f, state, &mut table[..size]);
     let after = got.state;
     let end = got.end;
     let head = ending(out, at, end, after);
-    entries(out, head, &table, state.used, after.used)
+    entries(out, head, table, state.used, after.used)
 }
 
 // The number, the state and the need.
@@ -152,8 +167,8 @@ fn literal_state(out: &mut Out, at: usize, number: &[u8], state: State) -> usize
 fn entries(out: &mut Out, at: usize, table: &[u64], from: usize, to: usize) -> usize {
     let mut done = at;
     let mut i = from;
-    while i < to && i < 4096 {
-        if table.len() < 4 * i + 4 {
+    while i < to {
+        if table.len() / 4 <= i {
             return done;
         }
         done = entry(out, done, &table[4 * i..4 * i + 4]);
