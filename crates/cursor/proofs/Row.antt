@@ -49,7 +49,7 @@ module _ (c : Cursor) (s : List ℕ) (at : ℕ) where
   unfolding turn
   at-the-end h = choose-false _ _ s at (lt-leb 1 (c .left) (omega arith)) ∙ ret-is _ s at
 
-listed-more : (big : Bool) (s : List ℕ) (n at : ℕ) → listed big (suc n) s at ≡ more (listed big n s) (argument big s at)
+pub listed-more : (big : Bool) (s : List ℕ) (n at : ℕ) → listed big (suc n) s at ≡ more (listed big n s) (argument big s at)
 unfolding listed
 listed-more big s n at = more-is (argument big) (listed big n) s at
 
