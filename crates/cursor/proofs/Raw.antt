@@ -7,7 +7,7 @@ use Prim.Native.Nat.{ℕ, zero, suc, _≤_, _<_, zero-le}
 use native.Mathlib.Omega.{arith}
 use mathlib.Core.Path.{_≡_, refl, sym, ap, _∙_}
 use mathlib.Core.Bool.{Bool}
-use mathlib.Core.List.{List}
+use mathlib.Core.List.{List, _∷_}
 use Rattle.wire.specs.Answer.{Ans}
 use Rattle.wire.specs.Answer.Ans.{done, need, hickup, broken}
 use Rattle.wire.specs.Parser.{_>>=_, ret, here}
@@ -16,12 +16,12 @@ use Rattle.wire.proofs.Step.{then-done, then-need, then-hickup, then-broken, re
 use Rattle.headertype.specs.declared.OptRange.{OptRange}
 use Rattle.dlt.specs.declared.Argument.{Argument}
 use Rattle.arguments.specs.Argument.{argument}
-use Rattle.cursor.specs.Row.{before, onward, walk, counted, handed}
+use Rattle.cursor.specs.Row.{mapped, before, onward, walk, counted, handed}
 use Rattle.cursor.specs.Cursor.{listed}
-use Rattle.cursor.specs.Raw.{rawOf, rawCursor, handOut, firstRaw, rawTurn, rawStepped, rawCalled, kept, keptBefore, rawKept}
+use Rattle.cursor.specs.Raw.{rawOf, rawCursor, handOut, firstRaw, rawTurn, rawStepOf, rawCalled, kept, keptBefore, rawKept}
 use Rattle.cursor.specs.declared.RawCursor.{RawCursor}
 use Rattle.cursor.specs.declared.RawTurn.{RawTurn}
-use Rattle.cursor.proofs.Walks.{more}
+use Rattle.cursor.proofs.Walks.{mapped-twice, more}
 use Rattle.cursor.proofs.Row.{listed-more}
 
 module _ (big : Bool) (s : List ℕ) (at : ℕ) where
@@ -66,25 +66,22 @@ keep (OptRange.Present r) x = before r x
 keep OptRange.Absent x = x
 
 keep-is : (a : Argument) (x : Ans (List Argument)) (o : OptRange) → rawOf (a .value) ≡ o → rawKept (before a x) ≡ keep o (rawKept x)
-keep-is a (done rest b) (OptRange.Present r) q = ap (λ (p : OptRange). done (keptBefore p (kept rest)) b) q
-keep-is a (done rest b) OptRange.Absent q = ap (λ (p : OptRange). done (keptBefore p (kept rest)) b) q
-keep-is a (need n) (OptRange.Present r) q = refl
-keep-is a (need n) OptRange.Absent q = refl
-keep-is a (hickup n) (OptRange.Present r) q = refl
-keep-is a (hickup n) OptRange.Absent q = refl
-keep-is a broken (OptRange.Present r) q = refl
-keep-is a broken OptRange.Absent q = refl
+keep-is a x o q = mapped-twice kept (λ rest. a ∷ rest) x ∙ ap (λ (p : OptRange). mapped (λ rest. keptBefore p (kept rest)) x) q ∙ by o
+  where
+    by : (o : OptRange) → mapped (λ rest. keptBefore o (kept rest)) x ≡ keep o (rawKept x)
+    by (OptRange.Present r) = sym (mapped-twice (λ rest. r ∷ rest) kept x)
+    by OptRange.Absent = refl
 
 module _ (big : Bool) (s : List ℕ) where
   -- a call with n left, where the calls behind it are right for fewer
   module _ (k : RawCursor → Ans (List Range)) where
-    call : (n at : ℕ) → ((l b : ℕ) → l < n → k (rawCursor b l big) ≡ rawKept (listed big l s b)) → onward k (rawStepped (firstRaw big n s at)) ≡ rawKept (listed big n s at)
+    call : (n at : ℕ) → ((l b : ℕ) → l < n → k (rawCursor b l big) ≡ rawKept (listed big l s b)) → onward k (mapped rawStepOf (firstRaw big n s at)) ≡ rawKept (listed big n s at)
     unfolding listed ret
-    call zero at next = ap (λ (x : Ans RawTurn). onward k (rawStepped x)) (raw-none big s at 0 (omega arith))
+    call zero at next = ap (λ (x : Ans RawTurn). onward k (mapped rawStepOf x)) (raw-none big s at 0 (omega arith))
     call (suc n) at next = by (argument big s at) refl (λ b. call n b (λ l d h. next l d (omega arith))) ∙ ap rawKept (sym (listed-more big s n at))
       where
         onto : Ans RawTurn → Ans (List Range)
-        onto x = onward k (rawStepped x)
+        onto x = onward k (mapped rawStepOf x)
 
         first : (a : Argument) (b : ℕ) → argument big s at ≡ done a b → (o : OptRange) → rawOf (a .value) ≡ o
             → ((b : ℕ) → onto (firstRaw big n s b) ≡ rawKept (listed big n s b))
@@ -101,16 +98,16 @@ module _ (big : Bool) (s : List ℕ) where
         by broken e over = ap onto (raw-broken big s at (suc n) n refl e)
 
   module _ (k : RawCursor → ℕ) where
-    count : (n at : ℕ) → ((l b : ℕ) → l < n → k (rawCursor b l big) ≤ l) → counted k (rawStepped (firstRaw big n s at)) ≤ n
+    count : (n at : ℕ) → ((l b : ℕ) → l < n → k (rawCursor b l big) ≤ l) → counted k (mapped rawStepOf (firstRaw big n s at)) ≤ n
     count zero at less = rw (raw-none big s at 0 (omega arith)) zero-le
     count (suc n) at less = by (argument big s at) refl (λ b. count n b (λ l d h. less l d (omega arith)))
       where
         first : (a : Argument) (b : ℕ) → argument big s at ≡ done a b → (o : OptRange) → rawOf (a .value) ≡ o
-            → ((b : ℕ) → counted k (rawStepped (firstRaw big n s b)) ≤ n) → counted k (rawStepped (firstRaw big (suc n) s at)) ≤ suc n
+            → ((b : ℕ) → counted k (mapped rawStepOf (firstRaw big n s b)) ≤ n) → counted k (mapped rawStepOf (firstRaw big (suc n) s at)) ≤ suc n
         first a b e (OptRange.Present r) q over = rw (raw-item big s at (suc n) n refl e (sym q) refl) (let l : k (rawCursor b n big) ≤ n = less n b (omega arith) in omega arith)
-        first a b e OptRange.Absent q over = rw (raw-over big s at (suc n) n refl e (sym q) refl) (let l : counted k (rawStepped (firstRaw big n s b)) ≤ n = over b in omega arith)
+        first a b e OptRange.Absent q over = rw (raw-over big s at (suc n) n refl e (sym q) refl) (let l : counted k (mapped rawStepOf (firstRaw big n s b)) ≤ n = over b in omega arith)
 
-        by : (x : Ans Argument) → argument big s at ≡ x → ((b : ℕ) → counted k (rawStepped (firstRaw big n s b)) ≤ n) → counted k (rawStepped (firstRaw big (suc n) s at)) ≤ suc n
+        by : (x : Ans Argument) → argument big s at ≡ x → ((b : ℕ) → counted k (mapped rawStepOf (firstRaw big n s b)) ≤ n) → counted k (mapped rawStepOf (firstRaw big (suc n) s at)) ≤ suc n
         by (done a b) e over = first a b e (rawOf (a .value)) refl over
         by (need m) e over = rw (raw-need big s at (suc n) n refl e) zero-le
         by (hickup r) e over = rw (raw-hickup big s at (suc n) n refl e) zero-le

@@ -10,7 +10,13 @@ use mathlib.Core.List.{List, [], _∷_}
 use Rattle.wire.specs.Answer.{Ans, Parser}
 use Rattle.wire.specs.Answer.Ans.{done, need, hickup, broken}
 use Rattle.wire.specs.Parser.{_>>=_, ret, follow}
-use Rattle.cursor.specs.Row.{Step, item, end, before, onward, walk, counted, handed}
+use Rattle.cursor.specs.Row.{Step, item, end, mapped, before, onward, walk, counted, handed}
+
+pub mapped-twice : {A B D : Type 0} (f : B → D) (g : A → B) (x : Ans A) → mapped f (mapped g x) ≡ mapped (λ a. f (g a)) x
+mapped-twice f g (done a b) = refl
+mapped-twice f g (need n) = refl
+mapped-twice f g (hickup r) = refl
+mapped-twice f g broken = refl
 
 -- a list of one more, by what the first element's rule answers
 abbrev pub more : {A : Type 0} → (ℕ → Ans (List A)) → Ans A → Ans (List A)

@@ -3,14 +3,14 @@ use Prim.Native.Nat.{ℕ, zero, suc}
 use mathlib.Core.Bool.{Bool}
 use mathlib.Core.List.{List, [], _∷_}
 use Rattle.wire.specs.Answer.{Ans, Parser}
-use Rattle.wire.specs.Answer.Ans.{done, need, hickup, broken}
+use Rattle.wire.specs.Answer.Ans.{done, need, hickup}
 use Rattle.wire.specs.Parser.{ret, here, _>>=_}
 use Rattle.wire.specs.declared.Range.{Range}
 use Rattle.headertype.specs.declared.OptRange.{OptRange}
 use Rattle.dlt.specs.declared.Value.{Value}
 use Rattle.dlt.specs.declared.Argument.{Argument}
 use Rattle.arguments.specs.Argument.{argument}
-use Rattle.cursor.specs.Row.{Step, item, end}
+use Rattle.cursor.specs.Row.{Step, item, end, mapped}
 use Rattle.cursor.specs.declared.RawCursor.{RawCursor}
 use Rattle.cursor.specs.declared.RawTurn.{RawTurn}
 use Rattle.cursor.specs.declared.RawTurnAns.{RawTurnAns}
@@ -63,15 +63,12 @@ rawTurnAns (RawTurnAns.Hickup r) = hickup r
 
 -- ---- what the theorems of proofs/Raw.antt say
 -- a call over these bytes (specs/Row.antt says what its calls hand out)
-abbrev pub rawStepped : Ans RawTurn → Ans (Step Range RawCursor)
-rawStepped (done (RawTurn.Item h) b) = done (item (h .range) (h .rest)) b
-rawStepped (done RawTurn.End b) = done end b
-rawStepped (need n) = need n
-rawStepped (hickup r) = hickup r
-rawStepped broken = broken
+abbrev pub rawStepOf : RawTurn → Step Range RawCursor
+rawStepOf (RawTurn.Item h) = item (h .range) (h .rest)
+rawStepOf RawTurn.End = end
 
 abbrev pub rawCalled : List ℕ → RawCursor → Ans (Step Range RawCursor)
-rawCalled s c = rawStepped (rawTurn c s (c .at))
+rawCalled s c = mapped rawStepOf (rawTurn c s (c .at))
 
 -- the raw values of a list of arguments, in its order
 abbrev pub keptBefore : OptRange → List Range → List Range
@@ -84,7 +81,4 @@ kept (a ∷ rest) = keptBefore (rawOf (a .value)) (kept rest)
 
 -- a list that was read, of which only raw values are kept
 abbrev pub rawKept : Ans (List Argument) → Ans (List Range)
-rawKept (done all b) = done (kept all) b
-rawKept (need n) = need n
-rawKept (hickup r) = hickup r
-rawKept broken = broken
+rawKept = mapped kept
