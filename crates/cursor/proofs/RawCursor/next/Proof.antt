@@ -1,6 +1,6 @@
 -- `cursor::RawCursor::next` meets its contract. The invariant: the first raw value of all that were left is that of those that are left.
 -- Assumes nothing.
-use Prim.Native.Nat.{suc, _-_}
+use Prim.Native.Nat.{_-_}
 use native.Mathlib.Omega.{arith}
 use mathlib.Core.Path.{_≡_, refl, sym, _∙_}
 use Rattle.wire.proofs.Step.{told}
