@@ -25,8 +25,8 @@ auto arguments dlt_type_info Argument typeInfo arguments-reading
 auto arguments bool_argument Argument boolean arguments-reading
 auto arguments plain_argument Argument plain arguments-reading
 auto arguments scaled_argument Argument scaled arguments-reading
-auto arguments string_argument Argument textual arguments-reading
-auto arguments raw_argument Argument rawBytes arguments-reading
+auto arguments sized_value Argument content arguments-reading
+auto arguments sized_argument Argument sized arguments-reading
 auto arguments argument_of Argument kinded arguments-reading
 auto arguments dlt_argument Argument argument arguments-reading
 }

@@ -13,7 +13,7 @@ use Rattle.dlt.specs.declared.Decoded.{Decoded}
 use Rattle.values.specs.declared.Numeric.{Numeric}
 use Rattle.values.proofs.Laws.{value-law, fixedPoint-law}
 use Rattle.names.proofs.Laws.{maybeName-law, maybeNames-law}
-use Rattle.arguments.specs.Argument.{decoded, typeInfo, plain, scaled, boolean, textual, rawBytes, kinded, argument}
+use Rattle.arguments.specs.Argument.{decoded, typeInfo, plain, scaled, boolean, content, sized, kinded, argument}
 
 decoded-law : (d : Decoded) → Lawful (decoded d)
 unfolding decoded ret refuse
@@ -36,7 +36,7 @@ module _ (big : Bool) (start : ℕ) (info : TypeInfo) where
   scaled-law width sort = search parts depth 20
 
   kinded-law : (k : TypeInfoKind) → Lawful (kinded big start info k)
-  unfolding kinded boolean textual rawBytes
+  unfolding kinded boolean content sized
   kinded-law (TypeInfoKind.Signed w) = plain-law _
   kinded-law (TypeInfoKind.SignedFixedPoint w) = scaled-law w _
   kinded-law (TypeInfoKind.Unsigned w) = plain-law _

@@ -14,7 +14,7 @@ use Rattle.dlt.specs.declared.TypeInfo.{TypeInfo}
 use Rattle.dlt.specs.declared.OptPoint.{OptPoint}
 use Rattle.dlt.specs.declared.Value.{Value}
 use Rattle.dlt.specs.declared.Argument.{Argument}
-use Rattle.arguments.specs.Argument.{typeInfo, made, plain, scaled, boolean, textual, rawBytes, kinded, argument}
+use Rattle.arguments.specs.Argument.{typeInfo, made, plain, scaled, boolean, sized, kinded, argument}
 
 -- a value of this answer has Q
 abbrev Holds : {A : Type 0} → (A → ℕ → Type 0) → Ans A → Type 0
@@ -45,7 +45,7 @@ module _ (start : ℕ) (info : TypeInfo) where
       record { holds = λ s at. rw (then-done here _ s at (here-is s at), ret-is _ s at) (refl, refl) }
 
   kinded-gives : (big : Bool) (k : TypeInfoKind) → Gives (Stands start) (kinded big start info k)
-  unfolding kinded plain scaled boolean textual rawBytes
+  unfolding kinded plain scaled boolean sized
   kinded-gives big (TypeInfoKind.Signed w) = search (then-gives, made-gives) depth 20
   kinded-gives big (TypeInfoKind.SignedFixedPoint w) = search (then-gives, made-gives) depth 20
   kinded-gives big (TypeInfoKind.Unsigned w) = search (then-gives, made-gives) depth 20

@@ -21,7 +21,7 @@ use Rattle.dlt.specs.declared.Value.{Value}
 use Rattle.dlt.specs.declared.Argument.{Argument}
 use Rattle.values.specs.Value.{unsignedOf, uint, signedOf, sint, floatOf, fint, value, offsetOf, offset, fixedPoint}
 use Rattle.names.specs.Names.{name, maybeName, texts, nameAndUnit, maybeNames}
-use Rattle.arguments.specs.Argument.{decoded, typeInfo, plain, scaled, boolean, textual, rawBytes, kinded, argument}
+use Rattle.arguments.specs.Argument.{decoded, typeInfo, plain, scaled, boolean, content, sized, kinded, argument}
 
 -- what an example names of an answer
 pub data Sum : Type 0 where
@@ -57,5 +57,5 @@ pub vectors :
     × (sum (argument true (0 ∷ 0 ∷ 0x0A ∷ 0 ∷ 0 ∷ 3 ∷ 0 ∷ 2 ∷ 0x78 ∷ 0 ∷ 0x61 ∷ 0xFF ∷ 0 ∷ []) 0) ≡ named (OptRange.Present (range 8 1)) OptRange.Absent (Value.StringVal (range 10 1)) 13)
     × (sum (argument false (0 ∷ 4 ∷ 0 ∷ 0 ∷ 2 ∷ 0 ∷ 9 ∷ 8 ∷ []) 0) ≡ valued (Value.Raw (range 6 2)) 8)
     × (sum (argument false (0x42 ∷ 8 ∷ 0 ∷ 0 ∷ 0 ∷ 0 ∷ 0 ∷ 0 ∷ 0x34 ∷ 0x12 ∷ []) 0) ≡ named (OptRange.Present (range 8 0)) (OptRange.Present (range 8 0)) (Value.U16 4660) 10)
-unfolding argument typeInfo decoded kinded boolean plain scaled textual rawBytes name maybeName texts nameAndUnit maybeNames typeInfoOf kindBy codingOf word.signedOf word.unsignedOf word.floatOf typeLengthOf floatWidthOf value uint unsignedOf sint signedOf fint floatOf fixedPoint offset offsetOf nanBits text textOf validUpTo upTo sequence among formed bytes numeric number numberOf ret here choose asking having fixed _>>=_
+unfolding argument typeInfo decoded kinded boolean plain scaled content sized name maybeName texts nameAndUnit maybeNames typeInfoOf kindBy codingOf word.signedOf word.unsignedOf word.floatOf typeLengthOf floatWidthOf value uint unsignedOf sint signedOf fint floatOf fixedPoint offset offsetOf nanBits text textOf validUpTo upTo sequence among formed bytes numeric number numberOf ret here choose asking having fixed _>>=_
 vectors = (refl, refl, refl, refl, refl, refl, refl, refl, refl, refl, refl, refl)

@@ -1,9 +1,9 @@
 -- One argument of a verbose payload: document 01, type info, and Hickup reason 2.
 use Prim.Native.Nat.{ℕ}
-use mathlib.Core.Bool.{Bool, true}
+use mathlib.Core.Bool.{Bool, true, false}
 use Rattle.wire.specs.Answer.{Ans, Parser}
 use Rattle.wire.specs.Answer.Ans.{done, need, hickup}
-use Rattle.wire.specs.Parser.{ret, here, _>>=_}
+use Rattle.wire.specs.Parser.{ret, here, choose, _>>=_}
 use Rattle.wire.specs.Number.{number}
 use Rattle.wire.specs.Run.{bytes}
 use Rattle.strings.specs.Text.{text}
@@ -60,20 +60,17 @@ boolean big start info = do
   byte ← number true 1
   made start info name OptRange.Absent OptPoint.Absent (Value.Bool byte)
 
--- string and raw have value size, name size, name, value
-unfoldable pub textual : Bool → ℕ → TypeInfo → Parser Argument
-textual big start info = do
-  size ← number big 2
-  name ← maybeName (info .«has_variable_info») big
-  v ← text size
-  made start info name OptRange.Absent OptPoint.Absent (Value.StringVal v)
+-- a value of n bytes: raw, or a string
+unfoldable pub content : Bool → ℕ → Parser Value
+content raw n = choose raw (bytes n >>= (λ v. ret (Value.Raw v))) (text n >>= (λ v. ret (Value.StringVal v)))
 
-unfoldable pub rawBytes : Bool → ℕ → TypeInfo → Parser Argument
-rawBytes big start info = do
+-- string and raw have value size, name size, name, value
+unfoldable pub sized : Bool → Bool → ℕ → TypeInfo → Parser Argument
+sized raw big start info = do
   size ← number big 2
   name ← maybeName (info .«has_variable_info») big
-  v ← bytes size
-  made start info name OptRange.Absent OptPoint.Absent (Value.Raw v)
+  v ← content raw size
+  made start info name OptRange.Absent OptPoint.Absent v
 
 -- what follows the type info, by its kind
 unfoldable pub kinded : Bool → ℕ → TypeInfo → TypeInfoKind → Parser Argument
@@ -82,9 +79,9 @@ kinded big start info (TypeInfoKind.SignedFixedPoint w) = scaled big start info 
 kinded big start info (TypeInfoKind.Unsigned w) = plain big start info (Numeric.Unsigned w)
 kinded big start info (TypeInfoKind.UnsignedFixedPoint w) = scaled big start info w (Numeric.Unsigned (wideLength w))
 kinded big start info (TypeInfoKind.Float w) = plain big start info (Numeric.Float w)
-kinded big start info TypeInfoKind.Raw = rawBytes big start info
+kinded big start info TypeInfoKind.Raw = sized true big start info
 kinded big start info TypeInfoKind.Bool = boolean big start info
-kinded big start info TypeInfoKind.StringType = textual big start info
+kinded big start info TypeInfoKind.StringType = sized false big start info
 
 -- an argument: its type info, and what follows it
 unfoldable pub argument : Bool → Parser Argument

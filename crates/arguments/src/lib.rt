@@ -1,7 +1,8 @@
 // One argument of a verbose payload, of any kind: port of `dlt_type_info` and `dlt_argument` in parse.rs of dlt-core 0.20.2 (Apache-2.0,
-// NOTICE). Signed, unsigned and float numbers share a function, and so do both fixed-point kinds.
+// NOTICE). Signed, unsigned and float numbers share a function, and so do both fixed-point kinds, and strings and raw bytes.
 ghost use mathlib.Core.Path.{_≡_};
-ghost use Rattle.arguments.specs.Argument.{typeInfo, boolean, plain, scaled, textual, rawBytes, kinded, argument, typeInfoAns, argumentAns};
+ghost use Rattle.values.specs.Value.{valueAns};
+ghost use Rattle.arguments.specs.Argument.{typeInfo, boolean, plain, scaled, content, sized, kinded, argument, typeInfoAns, argumentAns};
 use dlt::Argument;
 use dlt::Decoded;
 use dlt::FloatWidth;
@@ -12,6 +13,7 @@ use dlt::TypeInfoKind;
 use dlt::Value;
 use names::NameAns;
 use names::NamesAns;
+use values::GotValue;
 use values::Numeric;
 use values::PointAns;
 use values::ValueAns;
@@ -166,41 +168,43 @@ fn scaled_argument(
     })
 }
 
-// A string: value size, name, value.
-fn string_argument(s: &[u8], at: usize, start: usize, info: TypeInfo, big: bool) -> ArgumentAns
-    ensures { λ r. ⌜ argumentAns r ≡ textual big start info (now (s .entry)) at ⌝ }
+// A value of `n` bytes: raw, or a string.
+fn sized_value(s: &[u8], at: usize, n: usize, raw: bool) -> ValueAns
+    ensures { λ r. ⌜ valueAns r ≡ content raw n (now (s .entry)) at ⌝ }
 {
-    let size = match wire::parse_u16(s, at, big) {
-        U16Ans::Done(size) => size,
-        U16Ans::Need(no_size) => return ArgumentAns::Need(no_size),
-    };
-    let name = match names::maybe_variable_name(s, size.next, info.has_variable_info, big) {
-        NameAns::Done(name) => name,
-        NameAns::Need(no_name) => return ArgumentAns::Need(no_name),
-    };
-    let text = match strings::dlt_zero_terminated_string_intern(s, name.next, size.v as usize) {
-        RangeAns::Done(text) => text,
-        RangeAns::Need(no_text) => return ArgumentAns::Need(no_text),
-    };
-    let named = name.v;
-    let range = text.v;
-    ArgumentAns::Done(GotArgument {
-        v: Argument {
-            type_info: info,
-            name: named,
-            unit: OptRange::Absent,
-            fixed_point: OptPoint::Absent,
-            value: Value::StringVal(range),
-            start,
-            end: text.next,
-        },
-        next: text.next,
-    })
+    if raw {
+        let run = match wire::take(s, at, n) {
+            RangeAns::Done(run) => run,
+            RangeAns::Need(no_run) => return ValueAns::Need(no_run),
+        };
+        let range = run.v;
+        ValueAns::Done(GotValue {
+            v: Value::Raw(range),
+            next: run.next,
+        })
+    } else {
+        let text = match strings::dlt_zero_terminated_string_intern(s, at, n) {
+            RangeAns::Done(text) => text,
+            RangeAns::Need(no_text) => return ValueAns::Need(no_text),
+        };
+        let range = text.v;
+        ValueAns::Done(GotValue {
+            v: Value::StringVal(range),
+            next: text.next,
+        })
+    }
 }
 
-// Raw bytes: value size, name, value.
-fn raw_argument(s: &[u8], at: usize, start: usize, info: TypeInfo, big: bool) -> ArgumentAns
-    ensures { λ r. ⌜ argumentAns r ≡ rawBytes big start info (now (s .entry)) at ⌝ }
+// A string or raw bytes: value size, name, value.
+fn sized_argument(
+    s: &[u8],
+    at: usize,
+    start: usize,
+    info: TypeInfo,
+    raw: bool,
+    big: bool,
+) -> ArgumentAns
+    ensures { λ r. ⌜ argumentAns r ≡ sized raw big start info (now (s .entry)) at ⌝ }
 {
     let size = match wire::parse_u16(s, at, big) {
         U16Ans::Done(size) => size,
@@ -210,23 +214,23 @@ fn raw_argument(s: &[u8], at: usize, start: usize, info: TypeInfo, big: bool) ->
         NameAns::Done(name) => name,
         NameAns::Need(no_name) => return ArgumentAns::Need(no_name),
     };
-    let run = match wire::take(s, name.next, size.v as usize) {
-        RangeAns::Done(run) => run,
-        RangeAns::Need(no_run) => return ArgumentAns::Need(no_run),
+    let content = match sized_value(s, name.next, size.v as usize, raw) {
+        ValueAns::Done(content) => content,
+        ValueAns::Need(no_content) => return ArgumentAns::Need(no_content),
     };
     let named = name.v;
-    let range = run.v;
+    let value = content.v;
     ArgumentAns::Done(GotArgument {
         v: Argument {
             type_info: info,
             name: named,
             unit: OptRange::Absent,
             fixed_point: OptPoint::Absent,
-            value: Value::Raw(range),
+            value,
             start,
-            end: run.next,
+            end: content.next,
         },
-        next: run.next,
+        next: content.next,
     })
 }
 
@@ -251,9 +255,9 @@ fn argument_of(s: &[u8], at: usize, start: usize, info: TypeInfo, big: bool) -> 
             scaled_argument(s, at, start, info, real, Numeric::Unsigned(whole), big)
         }
         TypeInfoKind::Float(real) => plain_argument(s, at, start, info, Numeric::Float(real), big),
-        TypeInfoKind::Raw => raw_argument(s, at, start, info, big),
+        TypeInfoKind::Raw => sized_argument(s, at, start, info, true, big),
         TypeInfoKind::Bool => bool_argument(s, at, start, info, big),
-        TypeInfoKind::StringType => string_argument(s, at, start, info, big),
+        TypeInfoKind::StringType => sized_argument(s, at, start, info, false, big),
     }
 }
 

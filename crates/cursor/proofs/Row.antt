@@ -9,47 +9,36 @@ use Prim.Native.Nat.{ℕ, zero, suc, _-_, _≤_}
 use native.Mathlib.Omega.{arith}
 use mathlib.Core.Path.{_≡_, refl, sym, ap, _∙_}
 use mathlib.Core.Bool.{Bool}
-use mathlib.Core.List.{List}
+use mathlib.Core.List.{List, _∷_}
 use borrow.Author.Tests.{le-leb, lt-leb}
-use Rattle.wire.specs.Answer.{Ans, Parser}
+use Rattle.wire.specs.Answer.{Ans}
 use Rattle.wire.specs.Answer.Ans.{done, need, hickup, broken}
-use Rattle.wire.specs.Parser.{times, _>>=_, ret, here}
-use Rattle.wire.proofs.Step.{then-done, then-need, then-hickup, then-broken, choose-true, choose-false, ret-is, here-is}
+use Rattle.wire.specs.Parser.{times, _>>=_, ret}
+use Rattle.wire.proofs.Step.{then-done, then-need, then-hickup, then-broken, choose-true, choose-false, ret-is}
 use Rattle.dlt.specs.declared.Argument.{Argument}
 use Rattle.arguments.specs.Argument.{argument}
-use Rattle.cursor.specs.Row.{Step, item, before, walk, handed}
-use Rattle.cursor.specs.Cursor.{arguments, listed, cursor, turn, stepped, called, passed}
+use Rattle.cursor.specs.Row.{mapped, walk, handed}
+use Rattle.cursor.specs.Cursor.{arguments, listed, cursor, turn, stepOf, called, passed}
 use Rattle.cursor.specs.declared.Cursor.{Cursor}
 use Rattle.cursor.specs.declared.Turn.{Turn}
 use Rattle.cursor.proofs.Walks as walks
-use Rattle.cursor.proofs.Walks.{more, more-is, Goes, Faithful}
+use Rattle.cursor.proofs.Walks.{mapped-twice, more, more-is, next, next-is, goes-on, Faithful}
 
--- what a call answers with one argument left or more, by what the rule answers there
-abbrev next : Cursor → Ans Argument → Ans (Step Argument Cursor)
-next c (done a b) = done (item a (cursor b (c .left - 1) (c .big))) b
-next c (need n) = need n
-next c (hickup r) = hickup r
-next c broken = broken
-
-abbrev handing : Cursor → Argument → Parser Turn
-handing c a = here >>= (λ next. ret (Turn.Item (record { argument = a; rest = cursor next (c .left - 1) (c .big) })))
+-- the cursor behind an argument that ends at b
+abbrev behind : Cursor → ℕ → Cursor
+behind c b = cursor b (c .left - 1) (c .big)
 
 module _ (c : Cursor) (s : List ℕ) (at : ℕ) where
-  next-is : (x : Ans Argument) → argument (c .big) s at ≡ x → stepped ((argument (c .big) >>= handing c) s at) ≡ next c x
-  next-is (done a b) e = ap stepped (then-done (argument (c .big)) (handing c) s at e ∙ then-done here _ s b (here-is s b) ∙ ret-is _ s b)
-  next-is (need n) e = ap stepped (then-need (argument (c .big)) (handing c) s at e)
-  next-is (hickup r) e = ap stepped (then-hickup (argument (c .big)) (handing c) s at e)
-  next-is broken e = ap stepped (then-broken (argument (c .big)) (handing c) s at e)
-
-  turn-some : 1 ≤ c .left → stepped (turn c s at) ≡ next c (argument (c .big) s at)
+  turn-some : 1 ≤ c .left → mapped stepOf (turn c s at) ≡ next (behind c) (argument (c .big) s at)
   unfolding turn
-  turn-some h = ap stepped (choose-true _ _ s at (le-leb 1 (c .left) h)) ∙ next-is (argument (c .big) s at) refl
+  turn-some h = ap (mapped stepOf) (choose-true _ _ s at (le-leb 1 (c .left) h))
+      ∙ next-is (argument (c .big)) (λ a b. Turn.Item (record { argument = a; rest = behind c b })) stepOf (behind c) (λ a b. refl) s at
 
   pub at-the-end : c .left ≡ 0 → turn c s at ≡ done Turn.End at
   unfolding turn
   at-the-end h = choose-false _ _ s at (lt-leb 1 (c .left) (omega arith)) ∙ ret-is _ s at
 
-listed-more : (big : Bool) (s : List ℕ) (n at : ℕ) → listed big (suc n) s at ≡ more (listed big n s) (argument big s at)
+pub listed-more : (big : Bool) (s : List ℕ) (n at : ℕ) → listed big (suc n) s at ≡ more (listed big n s) (argument big s at)
 unfolding listed
 listed-more big s n at = more-is (argument big) (listed big n) s at
 
@@ -62,15 +51,10 @@ unfolding listed ret
 faithful s =
     record {
       none = λ c. refl;
-      ends = λ c e. ap stepped (at-the-end c s (c .at) e);
-      goes = λ c k n e. rw (turn-some c s (c .at) (omega arith), listed-more (c .big) s n (c .at)) (go c k n e (argument (c .big) s (c .at)));
+      ends = λ c e. ap (mapped stepOf) (at-the-end c s (c .at) e);
+      goes = λ c k n e. rw (turn-some c s (c .at) (omega arith), listed-more (c .big) s n (c .at))
+          (goes-on (λ c. c .left) (firsts s) (behind c) (listed (c .big) n s) k n (λ b. (omega arith, refl)) (argument (c .big) s (c .at)));
     }
-  where
-    go : (c : Cursor) (k n : ℕ) → c .left ≡ suc k → (x : Ans Argument) → Goes (λ (c : Cursor). c .left) (firsts s) k n (next c x) (more (listed (c .big) n s) x)
-    go c k n e (done a b) = (omega arith, refl)
-    go c k n e (need m) = refl
-    go c k n e (hickup r) = refl
-    go c k n e broken = refl
 
 module _ (s : List ℕ) (n : ℕ) (c : Cursor) where
   pub in-a-row : n ≤ c .left → walk (called s) (λ c. c .at) n c ≡ listed (c .big) n s (c .at)
@@ -87,15 +71,9 @@ unfolding arguments listed times ret
 all-passed big s zero at = refl
 all-passed big s (suc n) at = go (argument big s at) refl (all-passed big s n) ∙ ap passed (sym (listed-more big s n at))
   where
-    skip : (a : Argument) (x : Ans (List Argument)) → passed x ≡ passed (before a x)
-    skip a (done rest b) = refl
-    skip a (need m) = refl
-    skip a (hickup r) = refl
-    skip a broken = refl
-
     go : (x : Ans Argument) → argument big s at ≡ x → ((b : ℕ) → times n (argument big) s b ≡ passed (listed big n s b))
         → (argument big >>= (λ a. times n (argument big))) s at ≡ passed (more (listed big n s) x)
-    go (done a b) e next = then-done (argument big) _ s at e ∙ next b ∙ skip a (listed big n s b)
+    go (done a b) e next = then-done (argument big) _ s at e ∙ next b ∙ sym (mapped-twice (λ all. tt) (λ rest. a ∷ rest) (listed big n s b))
     go (need m) e next = then-need (argument big) _ s at e
     go (hickup r) e next = then-hickup (argument big) _ s at e
     go broken e next = then-broken (argument big) _ s at e

@@ -9,8 +9,15 @@ use mathlib.Core.Path.{_≡_, refl, sym, ap, _∙_}
 use mathlib.Core.List.{List, [], _∷_}
 use Rattle.wire.specs.Answer.{Ans, Parser}
 use Rattle.wire.specs.Answer.Ans.{done, need, hickup, broken}
-use Rattle.wire.specs.Parser.{_>>=_, ret, follow}
-use Rattle.cursor.specs.Row.{Step, item, end, before, onward, walk, counted, handed}
+use Rattle.wire.specs.Parser.{_>>=_, ret, here, follow}
+use Rattle.wire.proofs.Step.{then-done, then-need, then-hickup, then-broken, ret-is, here-is}
+use Rattle.cursor.specs.Row.{Step, item, end, mapped, before, onward, walk, counted, handed}
+
+pub mapped-twice : {A B D : Type 0} (f : B → D) (g : A → B) (x : Ans A) → mapped f (mapped g x) ≡ mapped (λ a. f (g a)) x
+mapped-twice f g (done a b) = refl
+mapped-twice f g (need n) = refl
+mapped-twice f g (hickup r) = refl
+mapped-twice f g broken = refl
 
 -- a list of one more, by what the first element's rule answers
 abbrev pub more : {A : Type 0} → (ℕ → Ans (List A)) → Ans A → Ans (List A)
@@ -45,6 +52,32 @@ module _ {A C : Type 0} (left : C → ℕ) (list : ℕ → C → Ans (List A)) w
   Goes k n (need m) y = y ≡ need m
   Goes k n (hickup r) y = y ≡ hickup r
   Goes k n broken y = y ≡ broken
+
+-- ---- a call that asks a rule p once and hands out its value, with the cursor that stands behind it
+-- what it answers, by what the rule answers there
+abbrev pub next : {A C : Type 0} → (ℕ → C) → Ans A → Ans (Step A C)
+next behind (done a b) = done (item a (behind b)) b
+next behind (need n) = need n
+next behind (hickup r) = hickup r
+next behind broken = broken
+
+module _ {A C T : Type 0} (p : Parser A) (turn : A → ℕ → T) (step : T → Step A C) (behind : ℕ → C) (is : (a : A) (b : ℕ) → step (turn a b) ≡ item a (behind b)) (s : List ℕ) (at : ℕ) where
+  pub next-is : mapped step ((p >>= (λ a. here >>= (λ b. ret (turn a b)))) s at) ≡ next behind (p s at)
+  next-is = by (p s at) refl
+    where
+      by : (x : Ans A) → p s at ≡ x → mapped step ((p >>= (λ a. here >>= (λ b. ret (turn a b)))) s at) ≡ next behind x
+      by (done a b) e = ap (mapped step) (then-done p _ s at e ∙ then-done here _ s b (here-is s b) ∙ ret-is _ s b) ∙ ap (λ (t : Step A C). done t b) (is a b)
+      by (need n) e = ap (mapped step) (then-need p _ s at e)
+      by (hickup r) e = ap (mapped step) (then-hickup p _ s at e)
+      by broken e = ap (mapped step) (then-broken p _ s at e)
+
+-- it goes on as it has to, if the cursor behind has one less left and the list's rest is its list
+pub goes-on : {A C : Type 0} (left : C → ℕ) (list : ℕ → C → Ans (List A)) (behind : ℕ → C) (rest : ℕ → Ans (List A)) (k n : ℕ)
+    → ((b : ℕ) → (left (behind b) ≡ k) × (rest b ≡ list n (behind b))) → (x : Ans A) → Goes left list k n (next behind x) (more rest x)
+goes-on left list behind rest k n h (done a b) = (h b .0, ap (before a) (h b .1))
+goes-on left list behind rest k n h (need m) = refl
+goes-on left list behind rest k n h (hickup r) = refl
+goes-on left list behind rest k n h broken = refl
 
 -- how a cursor c with `left c` elements left has to answer, where `list n c` is the list of the first n of them
 pub record Faithful {A C : Type 0} (call : C → Ans (Step A C)) (place left : C → ℕ) (list : ℕ → C → Ans (List A)) : Type 0 where

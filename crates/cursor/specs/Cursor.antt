@@ -4,11 +4,11 @@ use mathlib.Core.Bool.{Bool}
 use mathlib.Core.List.{List, [], _∷_}
 use lib.Dec.{leb}
 use Rattle.wire.specs.Answer.{Ans, Parser}
-use Rattle.wire.specs.Answer.Ans.{done, need, hickup, broken}
+use Rattle.wire.specs.Answer.Ans.{done, need, hickup}
 use Rattle.wire.specs.Parser.{ret, here, choose, times, _>>=_}
 use Rattle.dlt.specs.declared.Argument.{Argument}
 use Rattle.arguments.specs.Argument.{argument}
-use Rattle.cursor.specs.Row.{Step, item, end}
+use Rattle.cursor.specs.Row.{Step, item, end, mapped}
 use Rattle.cursor.specs.declared.Cursor.{Cursor}
 use Rattle.cursor.specs.declared.Turn.{Turn}
 use Rattle.cursor.specs.declared.PassAns.{PassAns}
@@ -49,19 +49,13 @@ turnAns (TurnAns.Hickup r) = hickup r
 
 -- ---- what the theorems of proofs/Row.antt say
 -- a call over these bytes (specs/Row.antt says what its calls hand out)
-abbrev pub stepped : Ans Turn → Ans (Step Argument Cursor)
-stepped (done (Turn.Item h) b) = done (item (h .argument) (h .rest)) b
-stepped (done Turn.End b) = done end b
-stepped (need n) = need n
-stepped (hickup r) = hickup r
-stepped broken = broken
+abbrev pub stepOf : Turn → Step Argument Cursor
+stepOf (Turn.Item h) = item (h .argument) (h .rest)
+stepOf Turn.End = end
 
 abbrev pub called : List ℕ → Cursor → Ans (Step Argument Cursor)
-called s c = stepped (turn c s (c .at))
+called s c = mapped stepOf (turn c s (c .at))
 
 -- a list that was read, as passed
 abbrev pub passed : Ans (List Argument) → Ans Unit
-passed (done rest b) = done tt b
-passed (need n) = need n
-passed (hickup r) = hickup r
-passed broken = broken
+passed = mapped (λ all. tt)

@@ -9,12 +9,16 @@ pub data Step (A C : Type 0) : Type 0 where
   item : A → C → Step A C
   end : Step A C
 
+-- an answer with what f makes of its value
+abbrev pub mapped : {A B : Type 0} → (A → B) → Ans A → Ans B
+mapped f (done a b) = done (f a) b
+mapped f (need n) = need n
+mapped f (hickup r) = hickup r
+mapped f broken = broken
+
 -- an element before others
 abbrev pub before : {A : Type 0} → A → Ans (List A) → Ans (List A)
-before a (done rest b) = done (a ∷ rest) b
-before a (need n) = need n
-before a (hickup r) = hickup r
-before a broken = broken
+before a = mapped (λ rest. a ∷ rest)
 
 -- what follows a call: the element that it handed out and what the calls after it give, or the end of all
 abbrev pub onward : {A C : Type 0} → (C → Ans (List A)) → Ans (Step A C) → Ans (List A)

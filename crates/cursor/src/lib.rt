@@ -1,9 +1,13 @@
-// As many arguments as are counted, passed in one call or handed out one a call by a cursor: port of what `dlt_payload` in parse.rs of
-// dlt-core 0.20.2 does by nom's `count` (Apache-2.0, NOTICE).
+// As many arguments as are counted, passed in one call or handed out one a call by a cursor, all of them or the raw values alone: port of what
+// `dlt_payload` in parse.rs of dlt-core 0.20.2 does by nom's `count` (Apache-2.0, NOTICE).
 ghost use mathlib.Core.Path.{_≡_};
 ghost use Rattle.cursor.specs.Cursor.{arguments, passAns, turn, turnAns};
+ghost use Rattle.cursor.specs.Raw.{rawOf, rawTurn, rawTurnAns};
 use arguments::ArgumentAns;
 use dlt::Argument;
+use dlt::OptRange;
+use dlt::Value;
+use wire::Range;
 
 // Done is where they end.
 pub enum PassAns {
@@ -87,5 +91,80 @@ impl Cursor {
                 next: self.at,
             })
         }
+    }
+}
+
+// The same over a network trace's arguments, of which only raw values are kept.
+pub struct RawCursor {
+    pub at: usize,
+    pub left: usize,
+    pub big: bool,
+}
+
+pub struct HandedRaw {
+    pub range: Range,
+    pub rest: RawCursor,
+}
+
+pub enum RawTurn {
+    Item(HandedRaw),
+    End,
+}
+
+pub struct GotRawTurn {
+    pub v: RawTurn,
+    pub next: usize,
+}
+
+pub enum RawTurnAns {
+    Done(GotRawTurn),
+    Need(usize),
+    Hickup(u8),
+}
+
+fn raw_of(v: Value) -> OptRange
+    ensures { λ r. ⌜ r ≡ rawOf v ⌝ }
+{
+    match v {
+        Value::Raw(range) => OptRange::Present(range),
+        _ => OptRange::Absent,
+    }
+}
+
+impl RawCursor {
+    // The next raw value and the cursor behind it, or the end. Arguments that aren't raw are read and passed over.
+    pub fn next(self, s: &[u8]) -> RawTurnAns
+        ensures { λ r. ⌜ rawTurnAns r ≡ rawTurn self (now (s .entry)) (self .at) ⌝ }
+    {
+        let big = self.big;
+        let mut at = self.at;
+        let mut left = self.left;
+        while 1 <= left {
+            let item = match arguments::dlt_argument(s, at, big) {
+                ArgumentAns::Done(item) => item,
+                ArgumentAns::Need(no_item) => return RawTurnAns::Need(no_item),
+                ArgumentAns::Hickup(bad_item) => return RawTurnAns::Hickup(bad_item),
+            };
+            let argument = item.v;
+            let value = argument.value;
+            at = item.next;
+            left -= 1;
+            match raw_of(value) {
+                OptRange::Present(range) => {
+                    return RawTurnAns::Done(GotRawTurn {
+                        v: RawTurn::Item(HandedRaw {
+                            range,
+                            rest: RawCursor { at, left, big },
+                        }),
+                        next: at,
+                    });
+                }
+                OptRange::Absent => {}
+            }
+        }
+        RawTurnAns::Done(GotRawTurn {
+            v: RawTurn::End,
+            next: at,
+        })
     }
 }

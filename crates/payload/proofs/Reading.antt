@@ -11,9 +11,9 @@ use Rattle.wire.proofs.Reading.{by-done, by-need, by-hickup, by-broken, reading
 use Rattle.messageinfo.specs.MessageInfo.{controlOf}
 use Rattle.messageinfo.specs.declared.ControlType.{ControlType}
 use Rattle.messageinfo.specs.declared.MessageType.{MessageType}
-use Rattle.cursor.specs.Cursor.{passAns}
+use Rattle.cursor.specs.Cursor.{passAns, cursor}
+use Rattle.cursor.specs.Raw.{rawCursor}
 use Rattle.cursor.specs.declared.PassAns.{PassAns}
-use Rattle.cursor.specs.declared.Cursor.{Cursor}
 use Rattle.filtering.specs.declared.OptExtended.{OptExtended}
 use Rattle.payload.specs.Payload.{isVerbose, countOf, controlType, networkType, isControl, isNetwork, listOf, verbose, payloadAns}
 use Rattle.payload.specs.declared.PayloadContent.{PayloadContent}
@@ -64,13 +64,14 @@ module _ (e e′ : MessageType) (q : e ≡ e′) (x : Bool) where
   pub network-type-at : x ≡ networkType e′ → x ≡ networkType e
   network-type-at h = rw q h
 
-pub list-network : (b : Bool) (c : Cursor) → b ≡ true → PayloadContent.NetworkTrace c ≡ listOf b c
-unfolding listOf
-list-network b c e = rw e
+module _ (b : Bool) (at left : ℕ) (big : Bool) where
+  pub list-network : b ≡ true → PayloadContent.NetworkTrace (rawCursor at left big) ≡ listOf b at left big
+  unfolding listOf
+  list-network e = rw e
 
-pub list-verbose : (b : Bool) (c : Cursor) → b ≡ false → PayloadContent.Verbose c ≡ listOf b c
-unfolding listOf
-list-verbose b c e = rw e
+  pub list-verbose : b ≡ false → PayloadContent.Verbose (cursor at left big) ≡ listOf b at left big
+  unfolding listOf
+  list-verbose e = rw e
 
 -- ---- what calls gave
 pub control-made : (n : ℕ) (k : ControlType) (r : Range) → k ≡ controlOf n → PayloadContent.ControlMsg k r ≡ PayloadContent.ControlMsg (controlOf n) r

@@ -10,7 +10,7 @@ use Rattle.wire.specs.Run.{bytes}
 use Rattle.messageinfo.specs.MessageInfo.{controlOf}
 use Rattle.messageinfo.specs.declared.MessageType.{MessageType}
 use Rattle.cursor.specs.Cursor.{arguments, cursor}
-use Rattle.cursor.specs.declared.Cursor.{Cursor}
+use Rattle.cursor.specs.Raw.{rawCursor}
 use Rattle.filtering.specs.declared.OptExtended.{OptExtended}
 use Rattle.payload.specs.declared.PayloadContent.{PayloadContent}
 use Rattle.payload.specs.declared.PayloadAns.{PayloadAns}
@@ -46,16 +46,16 @@ unfoldable pub isNetwork : OptExtended → Bool
 isNetwork (OptExtended.Present x) = networkType (x .«message_type»)
 isNetwork OptExtended.Absent = false
 
--- a verbose network trace has every argument read too; only its raw values are handed out
-unfoldable pub listOf : Bool → Cursor → PayloadContent
-listOf network c = pick network (PayloadContent.NetworkTrace c) (PayloadContent.Verbose c)
+-- the arguments as a cursor; of a network trace only raw values are kept
+unfoldable pub listOf : Bool → ℕ → ℕ → Bool → PayloadContent
+listOf network at left big = pick network (PayloadContent.NetworkTrace (rawCursor at left big)) (PayloadContent.Verbose (cursor at left big))
 
--- verbose: as many arguments as counted, read from all bytes that follow; bytes used end at the last argument
+-- verbose: as many arguments as counted, read from all bytes that follow; bytes used end at the last argument. A network trace must have every argument read too
 unfoldable pub verbose : Bool → ℕ → Bool → Parser PayloadContent
 verbose big count network = do
   start ← here
   passed ← arguments big count
-  ret (listOf network (cursor start count big))
+  ret (listOf network start count big)
 
 -- control type: payload 0 is Unrecoverable; one id byte, then the rest
 unfoldable pub control : ℕ → Parser PayloadContent

@@ -3,6 +3,7 @@ ghost use mathlib.Core.Path.{_≡_};
 ghost use Rattle.payload.specs.Payload.{isVerbose, countOf, controlType, networkType, isControl, isNetwork, listOf, verbose, control, plain, payload, payloadAns};
 use cursor::Cursor;
 use cursor::PassAns;
+use cursor::RawCursor;
 use filtering::OptExtended;
 use messageinfo::ControlType;
 use messageinfo::MessageType;
@@ -11,12 +12,12 @@ use wire::RangeAns;
 use wire::U8Ans;
 use wire::U32Ans;
 
-// A list of arguments is its cursor.
+// A list of arguments is its cursor; a network trace's hands out raw values only.
 pub enum PayloadContent {
     Verbose(Cursor),
     NonVerbose(u32, Range),
     ControlMsg(ControlType, Range),
-    NetworkTrace(Cursor),
+    NetworkTrace(RawCursor),
 }
 
 pub struct GotPayload {
@@ -97,13 +98,13 @@ fn is_network(e: OptExtended) -> bool
     }
 }
 
-fn list_of(network: bool, c: Cursor) -> PayloadContent
-    ensures { λ r. ⌜ r ≡ listOf network c ⌝ }
+fn list_of(network: bool, at: usize, left: usize, big: bool) -> PayloadContent
+    ensures { λ r. ⌜ r ≡ listOf network at left big ⌝ }
 {
     if network {
-        PayloadContent::NetworkTrace(c)
+        PayloadContent::NetworkTrace(RawCursor { at, left, big })
     } else {
-        PayloadContent::Verbose(c)
+        PayloadContent::Verbose(Cursor { at, left, big })
     }
 }
 
@@ -116,14 +117,7 @@ fn verbose_payload(s: &[u8], at: usize, big: bool, count: u8, network: bool) -> 
         PassAns::Need(no_end) => return PayloadAns::Need(no_end),
         PassAns::Hickup(bad_end) => return PayloadAns::Hickup(bad_end),
     };
-    let list = list_of(
-        network,
-        Cursor {
-            at: at,
-            left: count as usize,
-            big: big,
-        },
-    );
+    let list = list_of(network, at, count as usize, big);
     PayloadAns::Done(GotPayload { v: list, next: end })
 }
 

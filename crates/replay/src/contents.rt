@@ -4,11 +4,13 @@ use crate::types;
 use crate::writer;
 use crate::writer::Out;
 use cursor::Cursor;
+use cursor::RawCursor;
+use cursor::RawTurn;
+use cursor::RawTurnAns;
 use cursor::Turn;
 use cursor::TurnAns;
-use dlt::Argument;
-use dlt::Value;
 use payload::PayloadContent;
+use wire::Range;
 
 // The payload of a message that was read from `s` and ends at `end`.
 pub fn payload(out: &mut Out, at: usize, s: &[u8], p: PayloadContent, end: usize) -> usize {
@@ -70,20 +72,29 @@ fn every_argument(out: &mut Out, at: usize, s: &[u8], list: Cursor) -> usize {
     done
 }
 
-// The raw values, one behind the other: of a network trace only these are shown.
-fn every_raw(out: &mut Out, at: usize, s: &[u8], list: Cursor) -> usize {
+// The raw cursor's next value, likewise.
+fn following_raw(trace: RawCursor, s: &[u8]) -> RawTurn {
+    match trace.next(s) {
+        RawTurnAns::Done(got) => got.v,
+        RawTurnAns::Need(_) => RawTurn::End,
+        RawTurnAns::Hickup(_) => RawTurn::End,
+    }
+}
+
+// All raw values, one behind the other.
+fn every_raw(out: &mut Out, at: usize, s: &[u8], trace: RawCursor) -> usize {
     let mut done = at;
-    let mut rest = list;
-    let mut left = list.left;
+    let mut rest = trace;
+    let mut left = trace.left;
     while 0 < left {
-        match following(rest, s) {
-            Turn::Item(item) => {
-                let one = item.argument;
+        match following_raw(rest, s) {
+            RawTurn::Item(item) => {
+                let place = item.range;
                 let behind = item.rest;
-                done = raw(out, done, s, one);
+                done = raw(out, done, s, place);
                 rest = behind;
             }
-            Turn::End => {
+            RawTurn::End => {
                 break;
             }
         }
@@ -92,14 +103,8 @@ fn every_raw(out: &mut Out, at: usize, s: &[u8], list: Cursor) -> usize {
     done
 }
 
-// The value of an argument where it is raw, as `[TEXT]`.
-fn raw(out: &mut Out, at: usize, s: &[u8], a: Argument) -> usize {
-    let v = a.value;
-    match v {
-        Value::Raw(place) => {
-            let shown = writer::range(out, at, b"[", s, place);
-            writer::byte(out, shown, b']')
-        }
-        _ => at,
-    }
+// A raw value, as `[TEXT]`.
+fn raw(out: &mut Out, at: usize, s: &[u8], place: Range) -> usize {
+    let shown = writer::range(out, at, b"[", s, place);
+    writer::byte(out, shown, b']')
 }

@@ -16,44 +16,33 @@ use lib.Seq.{drop-cons, take-all}
 use borrow.Author.Tests.{lt-ltb, le-ltb}
 use Rattle.wire.specs.Answer.{Ans, Parser}
 use Rattle.wire.specs.Answer.Ans.{done, need, hickup, broken}
-use Rattle.wire.specs.Parser.{_>>=_, ret, here, follow}
+use Rattle.wire.specs.Parser.{_>>=_, ret, follow}
 use Rattle.wire.specs.Lawful.{Waits}
-use Rattle.wire.proofs.Step.{then-done, then-need, then-hickup, then-broken, choose-true, choose-false, ret-is, here-is}
+use Rattle.wire.proofs.Step.{choose-true, choose-false, ret-is}
 use Rattle.dlt.specs.TypeInfoWord.{typeInfoOf}
 use Rattle.dlt.specs.declared.Decoded.{Decoded}
 use Rattle.dlt.specs.declared.Argument.{Argument}
 use Rattle.arguments.specs.Argument.{decoded}
-use Rattle.cursor.specs.Row.{Step, item, before, walk, handed}
+use Rattle.cursor.specs.Row.{mapped, before, walk, handed}
 use Rattle.cursor.proofs.Walks as walks
-use Rattle.cursor.proofs.Walks.{more, more-is, Goes, Faithful}
+use Rattle.cursor.proofs.Walks.{mapped-twice, more, more-is, next, next-is, goes-on, Faithful}
 use Rattle.signals.specs.Signal.{closed, whole, inData, signal}
-use Rattle.signals.specs.Signals.{signals, constructed, listed, cursor, signalTurn, stepped, called, sized}
+use Rattle.signals.specs.Signals.{signals, constructed, listed, cursor, signalTurn, stepOf, called, sized}
 use Rattle.signals.specs.declared.SignalCursor.{SignalCursor}
 use Rattle.signals.specs.declared.SignalTurn.{SignalTurn}
 
--- what a call answers with a word left or more, by what the rule answers there
-abbrev next : SignalCursor → Ans Argument → Ans (Step Argument SignalCursor)
-next c (done a b) = done (item a (cursor b (c .word + 1) (c .big))) b
-next c (need n) = need n
-next c (hickup r) = hickup r
-next c broken = broken
-
-abbrev handing : SignalCursor → Argument → Parser SignalTurn
-handing c a = here >>= (λ next. ret (SignalTurn.Item (record { argument = a; rest = cursor next (c .word + 1) (c .big) })))
+-- the cursor behind a signal that ends at b
+abbrev behind : SignalCursor → ℕ → SignalCursor
+behind c b = cursor b (c .word + 1) (c .big)
 
 abbrev there : List ℕ → SignalCursor → Parser Argument
 there words c = signal (c .big) (getD words (c .word) 0)
 
 module _ (words : List ℕ) (c : SignalCursor) (s : List ℕ) (at : ℕ) where
-  next-is : (x : Ans Argument) → there words c s at ≡ x → stepped ((there words c >>= handing c) s at) ≡ next c x
-  next-is (done a b) e = ap stepped (then-done (there words c) (handing c) s at e ∙ then-done here _ s b (here-is s b) ∙ ret-is _ s b)
-  next-is (need n) e = ap stepped (then-need (there words c) (handing c) s at e)
-  next-is (hickup r) e = ap stepped (then-hickup (there words c) (handing c) s at e)
-  next-is broken e = ap stepped (then-broken (there words c) (handing c) s at e)
-
-  turn-some : c .word < length words → stepped (signalTurn words c s at) ≡ next c (there words c s at)
+  turn-some : c .word < length words → mapped stepOf (signalTurn words c s at) ≡ next (behind c) (there words c s at)
   unfolding signalTurn
-  turn-some h = ap stepped (choose-true _ _ s at (lt-ltb _ _ h)) ∙ next-is (there words c s at) refl
+  turn-some h = ap (mapped stepOf) (choose-true _ _ s at (lt-ltb _ _ h))
+      ∙ next-is (there words c) (λ a b. SignalTurn.Item (record { argument = a; rest = behind c b })) stepOf (behind c) (λ a b. refl) s at
 
   pub at-the-end : length words ≤ c .word → signalTurn words c s at ≡ done SignalTurn.End at
   unfolding signalTurn
@@ -76,22 +65,16 @@ module _ (words s : List ℕ) where
   faithful =
       record {
         none = λ c. refl;
-        ends = λ c e. ap stepped (at-the-end words c s (c .at) (omega arith));
+        ends = λ c e. ap (mapped stepOf) (at-the-end words c s (c .at) (omega arith));
         goes = λ c k n e.
             let l : c .word < length words = omega arith in
             let d : firsts words s (suc n) c ≡ more (listed (c .big) (take n (drop (suc (c .word)) words)) s) (there words c s (c .at))
             = ap (λ (ws : List ℕ). listed (c .big) (take (suc n) ws) s (c .at)) (drop-cons words (c .word) 0 l) ∙ listed-more (c .big) s (getD words (c .word) 0) (take n (drop (suc (c .word)) words)) (c .at) in
-            rw (turn-some words c s (c .at) l, d) (go c k n e (there words c s (c .at)));
+            let one : suc (c .word) ≡ c .word + 1 = omega arith in
+            rw (turn-some words c s (c .at) l, d)
+            (goes-on (λ c. length words - c .word) (firsts words s) (behind c) (listed (c .big) (take n (drop (suc (c .word)) words)) s) k n
+            (λ b. (omega arith, ap (λ (i : ℕ). listed (c .big) (take n (drop i words)) s b) one)) (there words c s (c .at)));
       }
-    where
-      go : (c : SignalCursor) (k n : ℕ) → length words - c .word ≡ suc k → (x : Ans Argument)
-          → Goes (λ (c : SignalCursor). length words - c .word) (firsts words s) k n (next c x) (more (listed (c .big) (take n (drop (suc (c .word)) words)) s) x)
-      go c k n e (done a b) =
-          let one : suc (c .word) ≡ c .word + 1 = omega arith in
-          (omega arith, ap (λ (i : ℕ). before a (listed (c .big) (take n (drop i words)) s b)) one)
-      go c k n e (need m) = refl
-      go c k n e (hickup r) = refl
-      go c k n e broken = refl
 
   module _ (n : ℕ) (c : SignalCursor) where
     pub in-a-row : n ≤ length words - c .word → walk (called words s) (λ c. c .at) n c ≡ listed (c .big) (take n (rest words c)) s (c .at)
@@ -106,33 +89,23 @@ module _ (words s : List ℕ) where
     never-more = walks.never-more faithful n c
 
 module _ (big : Bool) (s : List ℕ) where
-  -- one more element, in a count
-  abbrev one-more : Ans ℕ → Ans ℕ
-  one-more (done n b) = done (suc n) b
-  one-more (need n) = need n
-  one-more (hickup r) = hickup r
-  one-more broken = broken
-
   pub all-counted : (words : List ℕ) (at : ℕ) → constructed big words s at ≡ sized (listed big words s at)
   unfolding constructed signals listed _>>=_ ret
   all-counted [] at = refl
   all-counted (word ∷ words) at = by (signal big word s at) (all-counted words) ∙ ap sized (sym (listed-more big s word words at))
     where
-      longer : (x : Ans Unit) → follow x (λ u s at. done (suc (length words)) at) s ≡ one-more (follow x (λ u s at. done (length words) at) s)
+      longer : (x : Ans Unit) → follow x (λ u s at. done (suc (length words)) at) s ≡ mapped suc (follow x (λ u s at. done (length words) at) s)
       longer (done u b) = refl
       longer (need m) = refl
       longer (hickup r) = refl
       longer broken = refl
 
-      sized-more : (a : Argument) (x : Ans (List Argument)) → one-more (sized x) ≡ sized (before a x)
-      sized-more a (done rest b) = refl
-      sized-more a (need m) = refl
-      sized-more a (hickup r) = refl
-      sized-more a broken = refl
+      sized-more : (a : Argument) (x : Ans (List Argument)) → mapped suc (sized x) ≡ sized (before a x)
+      sized-more a x = mapped-twice suc length x ∙ sym (mapped-twice length (λ rest. a ∷ rest) x)
 
       by : (x : Ans Argument) → ((at : ℕ) → follow (signals big words s at) (λ u s at. done (length words) at) s ≡ sized (listed big words s at))
           → follow (follow x (λ a. signals big words) s) (λ u s at. done (suc (length words)) at) s ≡ sized (more (listed big words s) x)
-      by (done a b) next = longer (signals big words s b) ∙ ap one-more (next b) ∙ sized-more a (listed big words s b)
+      by (done a b) next = longer (signals big words s b) ∙ ap (mapped suc) (next b) ∙ sized-more a (listed big words s b)
       by (need m) next = refl
       by (hickup r) next = refl
       by broken next = refl

@@ -6,10 +6,10 @@ use mathlib.Core.List.{List, [], _∷_}
 use lib.ListN.{length, getD}
 use lib.Dec.{ltb}
 use Rattle.wire.specs.Answer.{Ans, Parser}
-use Rattle.wire.specs.Answer.Ans.{done, need, hickup, broken}
+use Rattle.wire.specs.Answer.Ans.{done, hickup}
 use Rattle.wire.specs.Parser.{ret, here, choose, _>>=_}
 use Rattle.dlt.specs.declared.Argument.{Argument}
-use Rattle.cursor.specs.Row.{Step, item, end}
+use Rattle.cursor.specs.Row.{Step, item, end, mapped}
 use Rattle.signals.specs.Signal.{signal}
 use Rattle.signals.specs.declared.ConstructAns.{ConstructAns}
 use Rattle.signals.specs.declared.SignalCursor.{SignalCursor}
@@ -58,19 +58,13 @@ signalTurnAns (SignalTurnAns.Hickup r) = hickup r
 
 -- ---- what the theorems of proofs/Row.antt say
 -- a call over these words and bytes (cursor's specs/Row.antt says what its calls hand out)
-abbrev pub stepped : Ans SignalTurn → Ans (Step Argument SignalCursor)
-stepped (done (SignalTurn.Item h) b) = done (item (h .argument) (h .rest)) b
-stepped (done SignalTurn.End b) = done end b
-stepped (need n) = need n
-stepped (hickup r) = hickup r
-stepped broken = broken
+abbrev pub stepOf : SignalTurn → Step Argument SignalCursor
+stepOf (SignalTurn.Item h) = item (h .argument) (h .rest)
+stepOf SignalTurn.End = end
 
 abbrev pub called : List ℕ → List ℕ → SignalCursor → Ans (Step Argument SignalCursor)
-called words s c = stepped (signalTurn words c s (c .at))
+called words s c = mapped stepOf (signalTurn words c s (c .at))
 
 -- a list that was read, as counted
 abbrev pub sized : Ans (List Argument) → Ans ℕ
-sized (done rest b) = done (length rest) b
-sized (need n) = need n
-sized (hickup r) = hickup r
-sized broken = broken
+sized = mapped length

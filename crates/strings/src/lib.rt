@@ -109,7 +109,8 @@ fn sequence_at(s: &[u8], at: usize, n: usize) -> usize
     0
 }
 
-fn fewer(a: usize, b: usize) -> usize
+// The lesser of two numbers.
+pub fn fewer(a: usize, b: usize) -> usize
     ensures { λ r. ⌜ r ≡ least a b ⌝ }
 {
     if a <= b { a } else { b }

@@ -1,14 +1,14 @@
--- `arguments::string_argument` meets its contract: `search` goes through the rule as the code does.
+-- `arguments::sized_argument` meets its contract: `search` goes through the rule as the code does.
 -- Assumes nothing.
 use borrow.Author.Needs.{needs}
 use Rattle.arguments.proofs.Reading.{arguments-reading}
-use Rattle.arguments.specs.Argument.{textual}
-use Rattle.arguments.proofs.string_argument.Statement.{statement}
-use Rattle.arguments.proofs.string_argument.Tie as tie
+use Rattle.arguments.specs.Argument.{sized}
+use Rattle.arguments.proofs.sized_argument.Statement.{statement}
+use Rattle.arguments.proofs.sized_argument.Tie as tie
 
-pub string-argument-spec : {M : Type 1} → statement M
-unfolding textual
-string-argument-spec =
+pub sized-argument-spec : {M : Type 1} → statement M
+unfolding sized
+sized-argument-spec =
     tie.close
     (tie.spec
     (λ c κs. search needs)
