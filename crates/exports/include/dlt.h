@@ -1,0 +1,101 @@
+/* Calls on numbers and byte slices. Each is proved to end on every input, to do nothing undefined, and to give exactly the answer that
+   crates/exports/specs/Calls.antt says; what each number of a lent slice is, is defined in crates/numbers/specs (Layout.antt, Arguments.antt).
+   The places below are read by host/build.rs too: a Rust host has them from here. A slice is a pointer and a length, and a slice of length 0 needs a
+   pointer that is not null. Nothing is kept after a call, nothing is allocated, and calls may run on any number of threads. */
+#ifndef DLT_H
+#define DLT_H
+
+#include <stdbool.h>
+#include <stddef.h>
+#include <stdint.h>
+
+/* An answer's number. With DLT_INCOMPLETE `value` is the need (0: unknown), with DLT_HICKUP the reason, with DLT_SHORT_OUT how many numbers
+   `out` must have room for: that is told first, whatever the other arguments are. `used` is how many bytes were used, where the number is
+   DLT_DONE. Only DLT_DONE changes what `out` holds. */
+#define DLT_DONE 0
+#define DLT_BAD_FILTER 1
+#define DLT_INCOMPLETE 2
+#define DLT_HICKUP 3
+#define DLT_UNRECOVERABLE 4
+#define DLT_SHORT_OUT 15
+
+typedef struct {
+    uint64_t number;
+    uint64_t value;
+    uint64_t used;
+} dlt_answer;
+
+/* What dlt_message writes. A flag is 0 or 1; what is absent has 0 for its flag and for its values. A text is its start in the bytes given, and its
+   length. Of a message that was filtered out only the first two are written. */
+#define DLT_MESSAGE_SIZE 33
+#define DLT_MESSAGE_FILTERED 0          /* 0 item, 1 filtered out */
+#define DLT_MESSAGE_PAYLOAD_LENGTH 1    /* as declared */
+#define DLT_MESSAGE_STORED 2            /* flag: storage header */
+#define DLT_MESSAGE_SECONDS 3
+#define DLT_MESSAGE_MICROSECONDS 4
+#define DLT_MESSAGE_STORED_ECU 5        /* start, length */
+#define DLT_MESSAGE_SKIPPED 7           /* bytes before the pattern */
+#define DLT_MESSAGE_VERSION 8
+#define DLT_MESSAGE_BIG 9               /* flag: the payload is big-endian */
+#define DLT_MESSAGE_HAS_EXTENDED 10     /* flag */
+#define DLT_MESSAGE_COUNTER 11
+#define DLT_MESSAGE_ECU 12              /* flag, start, length */
+#define DLT_MESSAGE_SESSION 15          /* flag, number */
+#define DLT_MESSAGE_TIMESTAMP 17        /* flag, number */
+#define DLT_MESSAGE_EXTENDED 19         /* flag: extended header */
+#define DLT_MESSAGE_VERBOSE 20          /* flag */
+#define DLT_MESSAGE_ARGUMENTS 21        /* how many are counted */
+#define DLT_MESSAGE_TYPE 22             /* 0 log, 1 application trace, 2 network trace, 3 control, 4 to 7 unknown */
+#define DLT_MESSAGE_SUBTYPE 23
+#define DLT_MESSAGE_APPLICATION 24      /* start, length */
+#define DLT_MESSAGE_CONTEXT 26          /* start, length */
+#define DLT_MESSAGE_PAYLOAD 28          /* 0 arguments, 1 non-verbose, 2 control, 3 network trace */
+#define DLT_MESSAGE_ID 29               /* the message id, or the control id */
+#define DLT_MESSAGE_START 30            /* of the bytes behind the id; of a list: where its first argument stands */
+#define DLT_MESSAGE_LENGTH 31           /* of the bytes behind the id; of a list: how many arguments are left */
+#define DLT_MESSAGE_LIST_BIG 32         /* flag: a list's byte order */
+
+/* What dlt_argument and dlt_signal write where there is an argument (value 1): the cursor to ask next with, and the argument. */
+#define DLT_ARGUMENT_SIZE 23
+#define DLT_ARGUMENT_NEXT 0             /* where the next stands */
+#define DLT_ARGUMENT_LEFT 1             /* how many are left; of signals: the next word's number */
+#define DLT_ARGUMENT_BIG 2              /* flag */
+#define DLT_ARGUMENT_START 3
+#define DLT_ARGUMENT_END 4
+#define DLT_ARGUMENT_KIND 5             /* 0 bool, 1 signed, 2 signed fixed point, 3 unsigned, 4 unsigned fixed point, 5 float, 6 string, 7 raw */
+#define DLT_ARGUMENT_BITS 6             /* 8 to 128, or 0 */
+#define DLT_ARGUMENT_CODING 7           /* 0 ASCII, 1 UTF-8, else reserved */
+#define DLT_ARGUMENT_VARIABLE_INFO 8    /* flag */
+#define DLT_ARGUMENT_TRACE_INFO 9       /* flag */
+#define DLT_ARGUMENT_NAME 10            /* flag, start, length */
+#define DLT_ARGUMENT_UNIT 13            /* flag, start, length */
+#define DLT_ARGUMENT_POINT 16           /* flag: fixed point */
+#define DLT_ARGUMENT_QUANTIZATION 17    /* an f32's pattern */
+#define DLT_ARGUMENT_OFFSET_BITS 18     /* 32 or 64 */
+#define DLT_ARGUMENT_OFFSET 19          /* two's complement of 64 bits */
+#define DLT_ARGUMENT_VALUE 20           /* 0 bool, 1 to 4 u8 to u64, 5 u128, 6 to 9 i8 to i64, 10 i128, 11 f32, 12 f64, 13 string, 14 raw */
+#define DLT_ARGUMENT_FIRST 21           /* the number; two's complement of 64 bits; a float's pattern; 128 bits: the high half; a text's start */
+#define DLT_ARGUMENT_SECOND 22          /* 128 bits: the low half; a text's length; else 0 */
+
+/* One message at the front of the bytes, under the filter `f` (document 01, "Filter bytes"; length 0: none). */
+dlt_answer dlt_message(const uint8_t *s, size_t s_len, const uint8_t *f, size_t f_len, bool with_storage_header, uint64_t *out, size_t out_len);
+
+/* The next argument of a list by its cursor (`at`, `left`, `big`): value 1 and the numbers, or value 0 at the end of the list. The bytes are those that
+   the message was read from. */
+dlt_answer dlt_argument(const uint8_t *s, size_t s_len, size_t at, size_t left, bool big, uint64_t *out, size_t out_len);
+
+/* The first place from `at` on where the storage pattern stands: value 1 and `used` the place, or value 0. */
+dlt_answer dlt_forward_to_next_storage_header(const uint8_t *s, size_t s_len, size_t at);
+
+/* Passes one message whose storage header stands at the front: `value` is its length with the storage header, 0 for no bytes at all. */
+dlt_answer dlt_consume_msg(const uint8_t *s, size_t s_len);
+
+/* An argument for each type info word from signal data: `value` is how many. */
+dlt_answer dlt_construct_arguments(bool big, const uint32_t *words, size_t words_len, const uint8_t *data, size_t data_len);
+
+/* One of them by its cursor (`at`, `word`, `big`), from (0, 0, big) on, as dlt_argument. */
+dlt_answer dlt_signal(const uint32_t *words, size_t words_len, const uint8_t *data, size_t data_len, size_t at, size_t word, bool big, uint64_t *out, size_t out_len);
+
+/* The index call comes here. */
+
+#endif

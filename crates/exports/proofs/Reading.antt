@@ -1,0 +1,165 @@
+-- The lemmas of the calls, for `search`: a is the answer that was made, X what the lent slice has at the end. Assumes nothing.
+use Prim.Native.Nat.{ℕ, _≤_, _<_}
+use mathlib.Core.Path.{_≡_, refl, sym, ap, _∙_}
+use mathlib.Core.Bool.{Bool, true, false}
+use mathlib.Core.List.{List}
+use lib.ListN.{length}
+use borrow.Author.Tests.{le-leb, lt-leb}
+use Rattle.wire.specs.Answer.{Ans}
+use Rattle.wire.specs.Answer.Ans.{done, need, hickup, broken}
+use Rattle.mark.specs.declared.Found.{Found}
+use Rattle.storage.specs.Consume.{consumeAns}
+use Rattle.storage.specs.declared.ConsumeAns.{ConsumeAns}
+use Rattle.storage.specs.declared.OptCount.{OptCount}
+use Rattle.cursor.specs.Cursor.{turn, turnAns}
+use Rattle.cursor.specs.declared.Cursor.{Cursor}
+use Rattle.cursor.specs.declared.Handed.{Handed}
+use Rattle.cursor.specs.declared.Turn.{Turn}
+use Rattle.cursor.specs.declared.TurnAns.{TurnAns}
+use Rattle.signals.specs.Signals.{signalTurn, signalTurnAns, constructAns}
+use Rattle.signals.specs.declared.SignalCursor.{SignalCursor}
+use Rattle.signals.specs.declared.HandedSignal.{HandedSignal}
+use Rattle.signals.specs.declared.SignalTurn.{SignalTurn}
+use Rattle.signals.specs.declared.SignalTurnAns.{SignalTurnAns}
+use Rattle.signals.specs.declared.Constructed.{Constructed}
+use Rattle.signals.specs.declared.ConstructAns.{ConstructAns}
+use Rattle.parse.specs.Message.{messageOf, messageAns}
+use Rattle.parse.specs.declared.MessageAns.{MessageAns}
+use Rattle.parse.specs.declared.GotParsed.{GotParsed}
+use Rattle.numbers.specs.Layout.{messageLaid}
+use Rattle.numbers.specs.Arguments.{argumentLaid}
+use Rattle.exports.specs.Calls.{Outcome, told, messageShown, messageCall, turnShown, argumentCall, signalShown, signalCall, foundAnswer, consumeAnswer, constructAnswer}
+use Rattle.exports.specs.declared.Answer.{Answer}
+
+abbrev pub numbers : ℕ → ℕ → ℕ → Answer
+numbers n value used = record { number = n; value = value; used = used }
+
+abbrev pub left : Answer → List ℕ → Outcome
+left a X = record { answer = a; out = X }
+
+-- ---- dlt_message: r is what the message rule answered
+pub message-short : (f : List ℕ) (stored : Bool) (s T : List ℕ) (a : Answer) → length T < 33 → a ≡ numbers 15 33 0 → messageCall f stored s T ≡ left a T
+unfolding messageCall
+message-short f stored s T a h e = rw (lt-leb 33 (length T) h, e)
+
+module _ (f : List ℕ) (stored : Bool) (s T X : List ℕ) (r r′ : MessageAns) (a : Answer) where
+  pub message-told : 33 ≤ length T → messageAns r ≡ messageOf f stored s → r ≡ r′ → messageShown T (messageAns r′) ≡ left a X → messageCall f stored s T ≡ left a X
+  unfolding messageCall
+  message-told h d q e = rw (le-leb 33 (length T) h, sym d, q) e
+
+module _ (T : List ℕ) (a : Answer) where
+  pub message-bad : a ≡ numbers 1 0 0 → messageShown T (messageAns MessageAns.BadFilter) ≡ left a T
+  unfolding messageShown
+  message-bad e = rw e
+
+  pub message-done : (g : GotParsed) (X : List ℕ) → X ≡ messageLaid T (g .v) → a ≡ numbers 0 0 (g .next) → messageShown T (messageAns (MessageAns.Done g)) ≡ left a X
+  unfolding messageShown
+  message-done g X h e = rw (h, e)
+
+  pub message-need : (n : ℕ) → a ≡ numbers 2 n 0 → messageShown T (messageAns (MessageAns.Need n)) ≡ left a T
+  unfolding messageShown
+  message-need n e = rw e
+
+  pub message-hickup : (n : ℕ) → a ≡ numbers 3 n 0 → messageShown T (messageAns (MessageAns.Hickup n)) ≡ left a T
+  unfolding messageShown
+  message-hickup n e = rw e
+
+  pub message-broken : a ≡ numbers 4 0 0 → messageShown T (messageAns MessageAns.Broken) ≡ left a T
+  unfolding messageShown
+  message-broken e = rw e
+
+-- ---- dlt_argument and dlt_signal
+module _ (c : Cursor) (s T : List ℕ) (a : Answer) where
+  pub argument-short : length T < 23 → a ≡ numbers 15 23 0 → argumentCall c s T ≡ left a T
+  unfolding argumentCall
+  argument-short h e = rw (lt-leb 23 (length T) h, e)
+
+  pub argument-told : (X : List ℕ) (r r′ : TurnAns) → 23 ≤ length T → turnAns r ≡ turn c s (c .at) → r ≡ r′ → turnShown T (turnAns r′) ≡ left a X → argumentCall c s T ≡ left a X
+  unfolding argumentCall
+  argument-told X r r′ h d q e = rw (le-leb 23 (length T) h, sym d, q) e
+
+module _ (T : List ℕ) (a : Answer) where
+  pub turn-at : (X : List ℕ) (t t′ : Turn) (b : ℕ) → t ≡ t′ → turnShown T (done t′ b) ≡ left a X → turnShown T (done t b) ≡ left a X
+  turn-at X t t′ b q h = rw q h
+
+  pub turn-item : (X : List ℕ) (i : Handed) (b : ℕ) → X ≡ argumentLaid T (i .rest .at) (i .rest .left) (i .rest .big) (i .argument) → a ≡ numbers 0 1 b → turnShown T (done (Turn.Item i) b) ≡ left a X
+  unfolding turnShown
+  turn-item X i b h e = rw (h, e)
+
+  pub turn-end : (b : ℕ) → a ≡ numbers 0 0 b → turnShown T (done Turn.End b) ≡ left a T
+  unfolding turnShown
+  turn-end b e = rw e
+
+  pub turn-need : (n : ℕ) → a ≡ numbers 2 n 0 → turnShown T (need n) ≡ left a T
+  unfolding turnShown
+  turn-need n e = rw e
+
+  pub turn-hickup : (n : ℕ) → a ≡ numbers 3 n 0 → turnShown T (hickup n) ≡ left a T
+  unfolding turnShown
+  turn-hickup n e = rw e
+
+module _ (words : List ℕ) (c : SignalCursor) (s T : List ℕ) (a : Answer) where
+  pub signal-short : length T < 23 → a ≡ numbers 15 23 0 → signalCall words c s T ≡ left a T
+  unfolding signalCall
+  signal-short h e = rw (lt-leb 23 (length T) h, e)
+
+  pub signal-told : (X : List ℕ) (r r′ : SignalTurnAns) → 23 ≤ length T → signalTurnAns r ≡ signalTurn words c s (c .at) → r ≡ r′ → signalShown T (signalTurnAns r′) ≡ left a X
+      → signalCall words c s T ≡ left a X
+  unfolding signalCall
+  signal-told X r r′ h d q e = rw (le-leb 23 (length T) h, sym d, q) e
+
+module _ (T : List ℕ) (a : Answer) where
+  pub signal-at : (X : List ℕ) (t t′ : SignalTurn) (b : ℕ) → t ≡ t′ → signalShown T (done t′ b) ≡ left a X → signalShown T (done t b) ≡ left a X
+  signal-at X t t′ b q h = rw q h
+
+  pub signal-item : (X : List ℕ) (i : HandedSignal) (b : ℕ) → X ≡ argumentLaid T (i .rest .at) (i .rest .word) (i .rest .big) (i .argument) → a ≡ numbers 0 1 b → signalShown T (done (SignalTurn.Item i) b) ≡ left a X
+  unfolding signalShown
+  signal-item X i b h e = rw (h, e)
+
+  pub signal-end : (b : ℕ) → a ≡ numbers 0 0 b → signalShown T (done SignalTurn.End b) ≡ left a T
+  unfolding signalShown
+  signal-end b e = rw e
+
+  pub signal-hickup : (n : ℕ) → a ≡ numbers 3 n 0 → signalShown T (hickup n) ≡ left a T
+  unfolding signalShown
+  signal-hickup n e = rw e
+
+-- ---- the calls that are lent nothing to write into: r is what the rule answered
+module _ (a : Answer) (r x : Found) (d : r ≡ x) where
+  pub found-at : (i : ℕ) → r ≡ Found.At i → a ≡ numbers 0 1 i → a ≡ foundAnswer x
+  found-at i q e = e ∙ ap foundAnswer (sym q ∙ d)
+
+  pub found-none : r ≡ Found.Nothing → a ≡ numbers 0 0 0 → a ≡ foundAnswer x
+  found-none q e = e ∙ ap foundAnswer (sym q ∙ d)
+
+module _ (a : Answer) (r r′ : ConsumeAns) (x : Ans OptCount) where
+  pub consume-told : consumeAns r ≡ x → r ≡ r′ → a ≡ consumeAnswer (consumeAns r′) → a ≡ consumeAnswer x
+  consume-told d q e = e ∙ ap consumeAnswer (ap consumeAns (sym q) ∙ d)
+
+module _ (a : Answer) where
+  pub consume-need : (n : ℕ) → a ≡ numbers 2 n 0 → a ≡ consumeAnswer (need n)
+  unfolding consumeAnswer
+  consume-need n e = e
+
+  pub consume-hickup : (n : ℕ) → a ≡ numbers 3 n 0 → a ≡ consumeAnswer (hickup n)
+  unfolding consumeAnswer
+  consume-hickup n e = e
+
+  pub count-some : (o : OptCount) (n b : ℕ) → o ≡ OptCount.Present n → a ≡ numbers 0 n b → a ≡ consumeAnswer (done o b)
+  unfolding consumeAnswer
+  count-some o n b q e = rw q e
+
+  pub count-none : (o : OptCount) (b : ℕ) → o ≡ OptCount.Absent → a ≡ numbers 0 0 b → a ≡ consumeAnswer (done o b)
+  unfolding consumeAnswer
+  count-none o b q e = rw q e
+
+module _ (a : Answer) (r : ConstructAns) (x : Ans ℕ) (d : constructAns r ≡ x) where
+  pub construct-done : (g : Constructed) → r ≡ ConstructAns.Done g → a ≡ numbers 0 (g .count) (g .used) → a ≡ constructAnswer x
+  unfolding constructAnswer
+  construct-done g q e = e ∙ ap constructAnswer (ap constructAns (sym q) ∙ d)
+
+  pub construct-hickup : (n : ℕ) → r ≡ ConstructAns.Hickup n → a ≡ numbers 3 n 0 → a ≡ constructAnswer x
+  unfolding constructAnswer
+  construct-hickup n q e = e ∙ ap constructAnswer (ap constructAns (sym q) ∙ d)
+
+pub ruleset calls = (message-short, message-told, message-bad, message-done, message-need, message-hickup, message-broken, argument-short, argument-told, turn-at, turn-item, turn-end, turn-need, turn-hickup, signal-short, signal-told, signal-at, signal-item, signal-end, signal-hickup, found-at, found-none, consume-told, consume-need, consume-hickup, count-some, count-none, construct-done, construct-hickup)

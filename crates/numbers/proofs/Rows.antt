@@ -1,0 +1,195 @@
+-- Stores in a row as the code writes them, and groups of numbers behind one another. Assumes nothing.
+use Prim.Native.Nat.{ℕ, _+_, _≤_, _<_}
+use mathlib.Core.Path.{_≡_, refl, sym, ap, _∙_}
+use mathlib.Core.Bool.{Bool, true, false}
+use mathlib.Core.List.{List, [], _∷_, _++_}
+use native.Mathlib.Numerals.{add-one, add-two, add-three, add-four, add-five, add-six, add-seven, add-eight}
+use native.Mathlib.Omega.{arith}
+use lib.ListN.{length, set, length-append}
+use borrow.Author.Tests.{le-leb, lt-leb}
+use Rattle.table.specs.Over.{over}
+use Rattle.table.proofs.Laws.{stores, over-over}
+use Rattle.headertype.specs.declared.OptNum.{OptNum}
+use Rattle.headertype.specs.declared.OptRange.{OptRange}
+use Rattle.headertype.specs.declared.StandardHeader.{StandardHeader}
+use Rattle.messageinfo.specs.declared.MessageType.{MessageType}
+use Rattle.storage.specs.declared.OptStored.{OptStored}
+use Rattle.filtering.specs.declared.OptExtended.{OptExtended}
+use Rattle.payload.specs.declared.PayloadContent.{PayloadContent}
+use Rattle.cursor.specs.declared.Cursor.{Cursor}
+use Rattle.messageinfo.specs.declared.ControlType.{ControlType}
+use Rattle.messageinfo.specs.declared.ExtendedHeader.{ExtendedHeader}
+use Rattle.wire.specs.declared.Range.{Range}
+use Rattle.parse.specs.declared.Message.{Message}
+use Rattle.parse.specs.declared.ParsedMessage.{ParsedMessage}
+use Rattle.numbers.specs.Layout.{oneIf, orderNumber, controlNumber, typeNumber, subtypeNumber, rangeNumbers, numNumbers, storageNumbers, frontNumbers, standardNumbers, extendedNumbers, payloadNumbers, leadNumbers, itemNumbers, messageNumbers, messageLaid}
+
+module _ (T : List ℕ) (k : ℕ) where
+  pub row2 : (a b : ℕ) → k + 2 ≤ length T → set (set T k a) (k + 1) b ≡ over T k (a ∷ b ∷ [])
+  row2 a b h = rw (add-one k) (stores T k (a ∷ b ∷ []) h)
+
+  pub row3 : (a b c : ℕ) → k + 3 ≤ length T → set (set (set T k a) (k + 1) b) (k + 2) c ≡ over T k (a ∷ b ∷ c ∷ [])
+  row3 a b c h = rw (add-one k, add-two k) (stores T k (a ∷ b ∷ c ∷ []) h)
+
+  pub row4 : (a b c d : ℕ) → k + 4 ≤ length T → set (set (set (set T k a) (k + 1) b) (k + 2) c) (k + 3) d ≡ over T k (a ∷ b ∷ c ∷ d ∷ [])
+  row4 a b c d h = rw (add-one k, add-two k, add-three k) (stores T k (a ∷ b ∷ c ∷ d ∷ []) h)
+
+  pub row5 : (a b c d e : ℕ) → k + 5 ≤ length T → set (set (set (set (set T k a) (k + 1) b) (k + 2) c) (k + 3) d) (k + 4) e ≡ over T k (a ∷ b ∷ c ∷ d ∷ e ∷ [])
+  row5 a b c d e h = rw (add-one k, add-two k, add-three k, add-four k) (stores T k (a ∷ b ∷ c ∷ d ∷ e ∷ []) h)
+
+  pub row6 : (a b c d e f : ℕ) → k + 6 ≤ length T → set (set (set (set (set (set T k a) (k + 1) b) (k + 2) c) (k + 3) d) (k + 4) e) (k + 5) f ≡ over T k (a ∷ b ∷ c ∷ d ∷ e ∷ f ∷ [])
+  row6 a b c d e f h = rw (add-one k, add-two k, add-three k, add-four k, add-five k) (stores T k (a ∷ b ∷ c ∷ d ∷ e ∷ f ∷ []) h)
+
+  pub row9 : (a b c d e f g h i : ℕ) → k + 9 ≤ length T → set (set (set (set (set (set (set (set (set T k a) (k + 1) b) (k + 2) c) (k + 3) d) (k + 4) e) (k + 5) f) (k + 6) g) (k + 7) h) (k + 8) i ≡ over T k (a ∷ b ∷ c ∷ d ∷ e ∷ f ∷ g ∷ h ∷ i ∷ [])
+  row9 a b c d e f g h i fits = rw (add-one k, add-two k, add-three k, add-four k, add-five k, add-six k, add-seven k, add-eight k) (stores T k (a ∷ b ∷ c ∷ d ∷ e ∷ f ∷ g ∷ h ∷ i ∷ []) fits)
+
+-- ---- numbers v from place k on, and numbers u behind them
+pub joined : (T X Y v u : List ℕ) (k n : ℕ) → X ≡ over T k v → Y ≡ over X n u → n ≡ k + length v → n ≤ length T → Y ≡ over T k (v ++ u)
+joined T X Y v u k n p q e h = q ∙ rw (p, e) (over-over T k v (omega arith) u)
+
+-- ---- the variant that was matched for the enum's value
+module _ (T X : List ℕ) (k : ℕ) where
+  pub range-at : (o o′ : OptRange) → o ≡ o′ → X ≡ over T k (rangeNumbers o′) → X ≡ over T k (rangeNumbers o)
+  range-at o o′ q h = rw q h
+
+  pub num-at : (o o′ : OptNum) → o ≡ o′ → X ≡ over T k (numNumbers o′) → X ≡ over T k (numNumbers o)
+  num-at o o′ q h = rw q h
+
+  pub storage-at : (o o′ : OptStored) → o ≡ o′ → X ≡ over T k (storageNumbers o′) → X ≡ over T k (storageNumbers o)
+  storage-at o o′ q h = rw q h
+
+  pub extended-at : (o o′ : OptExtended) → o ≡ o′ → X ≡ over T k (extendedNumbers o′) → X ≡ over T k (extendedNumbers o)
+  extended-at o o′ q h = rw q h
+
+  pub payload-at : (o o′ : PayloadContent) → o ≡ o′ → X ≡ over T k (payloadNumbers o′) → X ≡ over T k (payloadNumbers o)
+  payload-at o o′ q h = rw q h
+
+-- ---- the same where calls gave some of the numbers
+module _ (T X : List ℕ) (k : ℕ) (p : PayloadContent) (y : ℕ) where
+  pub verbose-row : (c : Cursor) → p ≡ PayloadContent.Verbose c → y ≡ oneIf (c .big) → X ≡ over T k (0 ∷ 0 ∷ c .at ∷ c .left ∷ y ∷ []) → X ≡ over T k (payloadNumbers p)
+  unfolding payloadNumbers
+  verbose-row c q e h = h ∙ rw (q, e)
+
+  pub trace-row : (c : Cursor) → p ≡ PayloadContent.NetworkTrace c → y ≡ oneIf (c .big) → X ≡ over T k (3 ∷ 0 ∷ c .at ∷ c .left ∷ y ∷ []) → X ≡ over T k (payloadNumbers p)
+  unfolding payloadNumbers
+  trace-row c q e h = h ∙ rw (q, e)
+
+  pub control-row : (t : ControlType) (r : Range) → p ≡ PayloadContent.ControlMsg t r → y ≡ controlNumber t → X ≡ over T k (2 ∷ y ∷ r .start ∷ r .len ∷ 0 ∷ []) → X ≡ over T k (payloadNumbers p)
+  unfolding payloadNumbers
+  control-row t r q e h = h ∙ rw (q, e)
+
+pub extended-row : (T X : List ℕ) (k : ℕ) (o : OptExtended) (x : ExtendedHeader) (v n m : ℕ) → o ≡ OptExtended.Present x → v ≡ oneIf (x .verbose) → n ≡ typeNumber (x .«message_type»)
+    → m ≡ subtypeNumber (x .«message_type»)
+    → X ≡ over T k (1 ∷ v ∷ x .«argument_count» ∷ n ∷ m ∷ x .«application_id» .start ∷ x .«application_id» .len ∷ x .«context_id» .start ∷ x .«context_id» .len ∷ [])
+    → X ≡ over T k (extendedNumbers o)
+unfolding extendedNumbers
+extended-row T X k o x v n m q ev en em h = h ∙ rw (q, ev, en, em)
+
+-- ---- how many numbers a group has
+pub ranges : (o : OptRange) → length (rangeNumbers o) ≡ 3
+unfolding rangeNumbers
+ranges (OptRange.Present r) = refl
+ranges OptRange.Absent = refl
+
+pub nums : (o : OptNum) → length (numNumbers o) ≡ 2
+unfolding numNumbers
+nums (OptNum.Present n) = refl
+nums OptNum.Absent = refl
+
+pub storages : (o : OptStored) → length (storageNumbers o) ≡ 6
+unfolding storageNumbers
+storages (OptStored.Present x) = refl
+storages OptStored.Absent = refl
+
+pub extendeds : (o : OptExtended) → length (extendedNumbers o) ≡ 9
+unfolding extendedNumbers
+extendeds (OptExtended.Present x) = refl
+extendeds OptExtended.Absent = refl
+
+pub payloads : (o : PayloadContent) → length (payloadNumbers o) ≡ 5
+unfolding payloadNumbers
+payloads (PayloadContent.Verbose c) = refl
+payloads (PayloadContent.NonVerbose id r) = refl
+payloads (PayloadContent.ControlMsg t r) = refl
+payloads (PayloadContent.NetworkTrace c) = refl
+
+-- ---- groups behind one another: a, then b, c, from place k on
+module _ (T A B C a b c : List ℕ) (k l m : ℕ) where
+  pub three-groups : A ≡ over T k a → B ≡ over A l b → C ≡ over B m c → l ≡ k + length a → m ≡ l + length b → m ≤ length T → C ≡ over T k ((a ++ b) ++ c)
+  three-groups p q r e f h =
+      let two = joined T A B a b k l p q e (omega arith) in
+      joined T B C (a ++ b) c k m two r (omega (arith, length-append a b)) h
+
+pub standards : (h : StandardHeader) → length (standardNumbers h) ≡ 11
+unfolding standardNumbers frontNumbers
+standards h =
+    let v = frontNumbers h in
+    let w = v ++ rangeNumbers (h .«ecu_id») in
+    let x = w ++ numNumbers (h .«session_id») in
+    omega (
+      arith,
+      length-append v (rangeNumbers (h .«ecu_id»)),
+      length-append w (numNumbers (h .«session_id»)),
+      length-append x (numNumbers (h .timestamp)),
+      ranges (h .«ecu_id»),
+      nums (h .«session_id»),
+      nums (h .timestamp),
+    )
+
+-- x and y are what `order` and `flag` gave
+pub front-row : (T X : List ℕ) (h : StandardHeader) (x y : ℕ) → x ≡ orderNumber (h .endianness) → y ≡ oneIf (h .«has_extended_header»)
+    → X ≡ over T 8 (h .version ∷ x ∷ y ∷ h .«message_counter» ∷ []) → X ≡ over T 8 (frontNumbers h)
+unfolding frontNumbers
+front-row T X h x y ex ey p = p ∙ rw (ex, ey)
+
+-- what the calls of `put_standard` leave, one after another
+pub standard-row : (T A B C D : List ℕ) (h : StandardHeader) → 33 ≤ length T → A ≡ over T 8 (frontNumbers h) → B ≡ over A 12 (rangeNumbers (h .«ecu_id»))
+    → C ≡ over B 15 (numNumbers (h .«session_id»)) → D ≡ over C 17 (numNumbers (h .timestamp)) → D ≡ over T 8 (standardNumbers h)
+unfolding standardNumbers frontNumbers
+standard-row T A B C D h fits p q r s =
+    let v = frontNumbers h in
+    let w = v ++ rangeNumbers (h .«ecu_id») in
+    let three =
+    three-groups T A B C v (rangeNumbers (h .«ecu_id»)) (numNumbers (h .«session_id»)) 8 12 15 p q r refl (omega (arith, ranges (h .«ecu_id»))) (omega arith) in
+    joined T C D (w ++ numNumbers (h .«session_id»)) (numNumbers (h .timestamp)) 8 17 three s (omega (
+      arith,
+      length-append v (rangeNumbers (h .«ecu_id»)),
+      length-append w (numNumbers (h .«session_id»)),
+      ranges (h .«ecu_id»),
+      nums (h .«session_id»),
+    )) (omega arith)
+
+-- what the calls of `put_lead` and of `put_item` leave
+pub leads : (m : Message) → length (leadNumbers m) ≡ 19
+unfolding leadNumbers
+leads m =
+    let a : List ℕ = 0 ∷ m .header .«payload_length» ∷ [] in
+    let b = storageNumbers (m .«storage_header») in
+    omega (arith, length-append a b, length-append (a ++ b) (standardNumbers (m .header)), storages (m .«storage_header»), standards (m .header))
+
+module _ (T A B C : List ℕ) (m : Message) (fits : 33 ≤ length T) where
+  pub lead-row : A ≡ over T 0 (0 ∷ m .header .«payload_length» ∷ []) → B ≡ over A 2 (storageNumbers (m .«storage_header»)) → C ≡ over B 8 (standardNumbers (m .header))
+      → C ≡ over T 0 (leadNumbers m)
+  unfolding leadNumbers
+  lead-row p q r =
+      let a : List ℕ = 0 ∷ m .header .«payload_length» ∷ [] in
+      three-groups T A B C a (storageNumbers (m .«storage_header»)) (standardNumbers (m .header)) 0 2 8 p q r refl
+      (omega (arith, storages (m .«storage_header»))) (omega arith)
+
+  pub item-row : A ≡ over T 0 (leadNumbers m) → B ≡ over A 19 (extendedNumbers (m .«extended_header»)) → C ≡ over B 28 (payloadNumbers (m .payload)) → C ≡ over T 0 (itemNumbers m)
+  unfolding itemNumbers
+  item-row p q r =
+      three-groups T A B C (leadNumbers m) (extendedNumbers (m .«extended_header»)) (payloadNumbers (m .payload)) 0 19 28 p q r (omega (arith, leads m))
+      (omega (arith, extendeds (m .«extended_header»))) (omega arith)
+
+-- ---- the whole, where it fits and where it doesn't
+module _ (T X : List ℕ) (p p′ : ParsedMessage) where
+  pub message-fits : 33 ≤ length T → p ≡ p′ → X ≡ over T 0 (messageNumbers p′) → X ≡ messageLaid T p
+  unfolding messageLaid
+  message-fits h q e = e ∙ rw (le-leb 33 (length T) h, q)
+
+pub message-short : (T : List ℕ) (p : ParsedMessage) → length T < 33 → T ≡ messageLaid T p
+unfolding messageLaid
+message-short T p h = rw (lt-leb 33 (length T) h)
+
+pub ruleset rows = (range-at, num-at, storage-at, extended-at, payload-at, verbose-row, trace-row, control-row, extended-row, front-row, standard-row, lead-row, item-row, message-fits, message-short)

@@ -1,0 +1,22 @@
+-- `numbers::put_num` meets its contract: `search` goes through the rule as the code does.
+-- Assumes nothing.
+use borrow.Author.Needs.{needs}
+use Rattle.numbers.proofs.Rows.{rows}
+use Rattle.numbers.specs.Layout.{numNumbers}
+use Rattle.numbers.proofs.put_num.Statement.{statement}
+use Rattle.numbers.proofs.put_num.Tie as tie
+
+pub put-num-spec : {M : Type 1} → statement M
+unfolding numNumbers
+put-num-spec =
+    tie.close
+    (tie.spec
+    (λ c. search needs)
+    (λ c. search needs)
+    (λ c κs. search needs)
+    (λ c. search needs)
+    (λ c κs. search needs)
+    (λ c. search needs)
+    (λ c. search rows depth 20)
+    (λ c. search needs)
+    (λ c. search rows depth 20))

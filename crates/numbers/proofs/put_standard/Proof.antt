@@ -1,0 +1,17 @@
+-- `numbers::put_standard` meets its contract: `search` goes through the rule as the code does.
+-- Assumes nothing.
+use borrow.Author.Needs.{needs}
+use Rattle.numbers.proofs.Rows.{rows}
+use Rattle.numbers.proofs.put_standard.Statement.{statement}
+use Rattle.numbers.proofs.put_standard.Tie as tie
+
+pub put-standard-spec : {M : Type 1} → statement M
+put-standard-spec =
+    tie.close
+    (tie.spec
+    (λ c κs. search needs)
+    (λ c κs. search needs)
+    (λ c κs. search needs)
+    (λ c κs. search needs)
+    (λ c. search needs)
+    (λ c. search rows depth 20))

@@ -1,0 +1,16 @@
+-- `numbers::put_type` meets its contract: `search` goes through the rule as the code does.
+-- Assumes nothing.
+use borrow.Author.Needs.{needs}
+use Rattle.numbers.proofs.Groups.{groups}
+use Rattle.numbers.proofs.put_type.Statement.{statement}
+use Rattle.numbers.proofs.put_type.Tie as tie
+
+pub put-type-spec : {M : Type 1} → statement M
+put-type-spec =
+    tie.close
+    (tie.spec
+    (λ c κs. search needs)
+    (λ c κs. search needs)
+    (λ c κs. search needs)
+    (λ c. search needs)
+    (λ c. search groups depth 20))

@@ -1,0 +1,17 @@
+-- `numbers::put_value` meets its contract: `search` goes through the rule as the code does.
+-- Assumes nothing.
+use borrow.Author.Needs.{needs}
+use Rattle.numbers.proofs.Groups.{groups}
+use Rattle.numbers.proofs.put_value.Statement.{statement}
+use Rattle.numbers.proofs.put_value.Tie as tie
+
+pub put-value-spec : {M : Type 1} → statement M
+put-value-spec =
+    tie.close
+    (tie.spec
+    (λ c κs. search needs)
+    (λ c κs. search needs)
+    (λ c κs. search needs)
+    (λ c κs. search needs)
+    (λ c. search needs)
+    (λ c. search groups depth 20))

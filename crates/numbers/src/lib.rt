@@ -1,0 +1,667 @@
+// Messages and arguments as numbers in a lent slice, for hosts that take no enum and no struct. specs/Layout.antt and specs/Arguments.antt have
+// the layout, number by number.
+ghost use mathlib.Core.Path.{_≡_};
+ghost use mathlib.Core.List.{[], _∷_};
+ghost use Prim.Native.Nat.{_+_, _≤_};
+ghost use lib.ListN.{length};
+ghost use lib.Ieee.{binary32, binary64, toBits};
+ghost use Rattle.table.specs.Over.{over};
+ghost use Rattle.numbers.specs.Layout.{oneIf, orderNumber, levelNumber, applicationNumber, networkNumber, controlNumber, typeNumber, subtypeNumber, rangeNumbers, numNumbers, storageNumbers, frontNumbers, standardNumbers, extendedNumbers, payloadNumbers, leadNumbers, itemNumbers, messageNumbers, messageLaid};
+ghost use Rattle.numbers.specs.Arguments.{signedBits, lengthBits, widthBits, kindNumber, kindBits, codingNumber, valueNumber, valueFirst, valueSecond, offsetWidth, offsetBits, kindNumbers, codingNumbers, pointNumbers, valueNumbers, typeNumbers, nameNumbers, contentNumbers, argumentNumbers, argumentLaid};
+use dlt::Argument;
+use dlt::FixedPointValue;
+use dlt::FloatWidth;
+use dlt::OptPoint;
+use dlt::StringCoding;
+use dlt::TypeInfo;
+use dlt::TypeInfoKind;
+use dlt::TypeLength;
+use dlt::Value;
+use filtering::OptExtended;
+use headertype::Endianness;
+use headertype::OptNum;
+use headertype::OptRange;
+use headertype::StandardHeader;
+use messageinfo::ApplicationTraceType;
+use messageinfo::ControlType;
+use messageinfo::ExtendedHeader;
+use messageinfo::LogLevel;
+use messageinfo::MessageType;
+use messageinfo::NetworkTraceType;
+use parse::Message;
+use parse::ParsedMessage;
+use payload::PayloadContent;
+use reals::Real32;
+use reals::Real64;
+use storage::OptStored;
+
+// ---- some numbers in a row, from place `at` on
+
+fn put2(out: &mut [u64], at: usize, a: u64, b: u64)
+    requires { ⌜ at + 2 ≤ length (now out) ⌝ }
+    ensures { λ _. ⌜ now (out .exit) ≡ over (now (out .entry)) at (a ∷ b ∷ []) ⌝ }
+{
+    out[at] = a;
+    out[at + 1] = b;
+}
+
+fn put3(out: &mut [u64], at: usize, a: u64, b: u64, c: u64)
+    requires { ⌜ at + 3 ≤ length (now out) ⌝ }
+    ensures { λ _. ⌜ now (out .exit) ≡ over (now (out .entry)) at (a ∷ b ∷ c ∷ []) ⌝ }
+{
+    out[at] = a;
+    out[at + 1] = b;
+    out[at + 2] = c;
+}
+
+fn put4(out: &mut [u64], at: usize, a: u64, b: u64, c: u64, d: u64)
+    requires { ⌜ at + 4 ≤ length (now out) ⌝ }
+    ensures { λ _. ⌜ now (out .exit) ≡ over (now (out .entry)) at (a ∷ b ∷ c ∷ d ∷ []) ⌝ }
+{
+    out[at] = a;
+    out[at + 1] = b;
+    out[at + 2] = c;
+    out[at + 3] = d;
+}
+
+fn put5(out: &mut [u64], at: usize, a: u64, b: u64, c: u64, d: u64, e: u64)
+    requires { ⌜ at + 5 ≤ length (now out) ⌝ }
+    ensures { λ _. ⌜ now (out .exit) ≡ over (now (out .entry)) at (a ∷ b ∷ c ∷ d ∷ e ∷ []) ⌝ }
+{
+    out[at] = a;
+    out[at + 1] = b;
+    out[at + 2] = c;
+    out[at + 3] = d;
+    out[at + 4] = e;
+}
+
+fn put6(out: &mut [u64], at: usize, a: u64, b: u64, c: u64, d: u64, e: u64, f: u64)
+    requires { ⌜ at + 6 ≤ length (now out) ⌝ }
+    ensures { λ _. ⌜ now (out .exit) ≡ over (now (out .entry)) at (a ∷ b ∷ c ∷ d ∷ e ∷ f ∷ []) ⌝ }
+{
+    out[at] = a;
+    out[at + 1] = b;
+    out[at + 2] = c;
+    out[at + 3] = d;
+    out[at + 4] = e;
+    out[at + 5] = f;
+}
+
+fn put9(
+    out: &mut [u64],
+    at: usize,
+    a: u64,
+    b: u64,
+    c: u64,
+    d: u64,
+    e: u64,
+    f: u64,
+    g: u64,
+    h: u64,
+    i: u64,
+)
+    requires { ⌜ at + 9 ≤ length (now out) ⌝ }
+    ensures { λ _. ⌜ now (out .exit) ≡ over (now (out .entry)) at (a ∷ b ∷ c ∷ d ∷ e ∷ f ∷ g ∷ h ∷ i ∷ []) ⌝ }
+{
+    out[at] = a;
+    out[at + 1] = b;
+    out[at + 2] = c;
+    out[at + 3] = d;
+    out[at + 4] = e;
+    out[at + 5] = f;
+    out[at + 6] = g;
+    out[at + 7] = h;
+    out[at + 8] = i;
+}
+
+// ---- numbers of the headers' enums
+
+fn flag(b: bool) -> u64
+    ensures { λ r. ⌜ r ≡ oneIf b ⌝ }
+{
+    if b { 1 } else { 0 }
+}
+
+fn order(e: Endianness) -> u64
+    ensures { λ r. ⌜ r ≡ orderNumber e ⌝ }
+{
+    match e {
+        Endianness::Little => 0,
+        Endianness::Big => 1,
+    }
+}
+
+fn level_number(l: LogLevel) -> u64
+    ensures { λ r. ⌜ r ≡ levelNumber l ⌝ }
+{
+    match l {
+        LogLevel::Fatal => 1,
+        LogLevel::Error => 2,
+        LogLevel::Warn => 3,
+        LogLevel::Info => 4,
+        LogLevel::Debug => 5,
+        LogLevel::Verbose => 6,
+        LogLevel::Invalid(n) => n as u64,
+    }
+}
+
+fn application_number(t: ApplicationTraceType) -> u64
+    ensures { λ r. ⌜ r ≡ applicationNumber t ⌝ }
+{
+    match t {
+        ApplicationTraceType::Variable => 1,
+        ApplicationTraceType::FunctionIn => 2,
+        ApplicationTraceType::FunctionOut => 3,
+        ApplicationTraceType::State => 4,
+        ApplicationTraceType::Vfb => 5,
+        ApplicationTraceType::Invalid(n) => n as u64,
+    }
+}
+
+fn network_number(t: NetworkTraceType) -> u64
+    ensures { λ r. ⌜ r ≡ networkNumber t ⌝ }
+{
+    match t {
+        NetworkTraceType::Invalid => 0,
+        NetworkTraceType::Ipc => 1,
+        NetworkTraceType::Can => 2,
+        NetworkTraceType::Flexray => 3,
+        NetworkTraceType::Most => 4,
+        NetworkTraceType::Ethernet => 5,
+        NetworkTraceType::Someip => 6,
+        NetworkTraceType::UserDefined(n) => n as u64,
+    }
+}
+
+fn control_number(t: ControlType) -> u64
+    ensures { λ r. ⌜ r ≡ controlNumber t ⌝ }
+{
+    match t {
+        ControlType::Request => 1,
+        ControlType::Response => 2,
+        ControlType::Unknown(n) => n as u64,
+    }
+}
+
+fn type_number(t: MessageType) -> u64
+    ensures { λ r. ⌜ r ≡ typeNumber t ⌝ }
+{
+    match t {
+        MessageType::Log(_) => 0,
+        MessageType::ApplicationTrace(_) => 1,
+        MessageType::NetworkTrace(_) => 2,
+        MessageType::Control(_) => 3,
+        MessageType::Unknown(kind, _) => kind as u64,
+    }
+}
+
+fn subtype_number(t: MessageType) -> u64
+    ensures { λ r. ⌜ r ≡ subtypeNumber t ⌝ }
+{
+    match t {
+        MessageType::Log(level) => level_number(level),
+        MessageType::ApplicationTrace(application) => application_number(application),
+        MessageType::NetworkTrace(network) => network_number(network),
+        MessageType::Control(control) => control_number(control),
+        MessageType::Unknown(_, n) => n as u64,
+    }
+}
+
+// ---- the groups of a message's numbers, each at its place
+
+fn put_range(out: &mut [u64], at: usize, o: OptRange)
+    requires { ⌜ at + 3 ≤ length (now out) ⌝ }
+    ensures { λ _. ⌜ now (out .exit) ≡ over (now (out .entry)) at (rangeNumbers o) ⌝ }
+{
+    match o {
+        OptRange::Present(r) => put3(out, at, 1, r.start as u64, r.len as u64),
+        OptRange::Absent => put3(out, at, 0, 0, 0),
+    }
+}
+
+fn put_num(out: &mut [u64], at: usize, o: OptNum)
+    requires { ⌜ at + 2 ≤ length (now out) ⌝ }
+    ensures { λ _. ⌜ now (out .exit) ≡ over (now (out .entry)) at (numNumbers o) ⌝ }
+{
+    match o {
+        OptNum::Present(n) => put2(out, at, 1, n as u64),
+        OptNum::Absent => put2(out, at, 0, 0),
+    }
+}
+
+fn put_storage(out: &mut [u64], o: OptStored)
+    requires { ⌜ 33 ≤ length (now out) ⌝ }
+    ensures { λ _. ⌜ now (out .exit) ≡ over (now (out .entry)) 2 (storageNumbers o) ⌝ }
+{
+    match o {
+        OptStored::Present(x) => {
+            let h = x.header;
+            let time = h.timestamp;
+            let ecu = h.ecu_id;
+            put6(
+                out,
+                2,
+                1,
+                time.seconds as u64,
+                time.microseconds as u64,
+                ecu.start as u64,
+                ecu.len as u64,
+                x.skipped as u64,
+            );
+        }
+        OptStored::Absent => put6(out, 2, 0, 0, 0, 0, 0, 0),
+    }
+}
+
+// The fields of the standard header that are always there.
+fn put_front(out: &mut [u64], h: StandardHeader)
+    requires { ⌜ 33 ≤ length (now out) ⌝ }
+    ensures { λ _. ⌜ now (out .exit) ≡ over (now (out .entry)) 8 (frontNumbers h) ⌝ }
+{
+    let endianness = h.endianness;
+    let big = order(endianness);
+    let extended = flag(h.has_extended_header);
+    put4(
+        out,
+        8,
+        h.version as u64,
+        big,
+        extended,
+        h.message_counter as u64,
+    );
+}
+
+fn put_standard(out: &mut [u64], h: StandardHeader)
+    requires { ⌜ 33 ≤ length (now out) ⌝ }
+    ensures { λ _. ⌜ now (out .exit) ≡ over (now (out .entry)) 8 (standardNumbers h) ⌝ }
+{
+    let ecu = h.ecu_id;
+    let session = h.session_id;
+    let time = h.timestamp;
+    put_front(out, h);
+    put_range(out, 12, ecu);
+    put_num(out, 15, session);
+    put_num(out, 17, time);
+}
+
+fn put_extended(out: &mut [u64], o: OptExtended)
+    requires { ⌜ 33 ≤ length (now out) ⌝ }
+    ensures { λ _. ⌜ now (out .exit) ≡ over (now (out .entry)) 19 (extendedNumbers o) ⌝ }
+{
+    match o {
+        OptExtended::Present(x) => {
+            let verbose = flag(x.verbose);
+            let its_type = x.message_type;
+            let kind = type_number(its_type);
+            let sub = subtype_number(its_type);
+            let app = x.application_id;
+            let context = x.context_id;
+            put9(
+                out,
+                19,
+                1,
+                verbose,
+                x.argument_count as u64,
+                kind,
+                sub,
+                app.start as u64,
+                app.len as u64,
+                context.start as u64,
+                context.len as u64,
+            );
+        }
+        OptExtended::Absent => put9(out, 19, 0, 0, 0, 0, 0, 0, 0, 0, 0),
+    }
+}
+
+fn put_payload(out: &mut [u64], p: PayloadContent)
+    requires { ⌜ 33 ≤ length (now out) ⌝ }
+    ensures { λ _. ⌜ now (out .exit) ≡ over (now (out .entry)) 28 (payloadNumbers p) ⌝ }
+{
+    match p {
+        PayloadContent::Verbose(list) => {
+            let big = flag(list.big);
+            put5(out, 28, 0, 0, list.at as u64, list.left as u64, big);
+        }
+        PayloadContent::NonVerbose(id, rest) => {
+            put5(out, 28, 1, id as u64, rest.start as u64, rest.len as u64, 0);
+        }
+        PayloadContent::ControlMsg(control, data) => {
+            let id = control_number(control);
+            put5(out, 28, 2, id, data.start as u64, data.len as u64, 0);
+        }
+        PayloadContent::NetworkTrace(trace) => {
+            let order = flag(trace.big);
+            put5(out, 28, 3, 0, trace.at as u64, trace.left as u64, order);
+        }
+    }
+}
+
+// What stands before the extended header's numbers.
+fn put_lead(out: &mut [u64], m: Message)
+    requires { ⌜ 33 ≤ length (now out) ⌝ }
+    ensures { λ _. ⌜ now (out .exit) ≡ over (now (out .entry)) 0 (leadNumbers m) ⌝ }
+{
+    let stored = m.storage_header;
+    let header = m.header;
+    put2(out, 0, 0, header.payload_length as u64);
+    put_storage(out, stored);
+    put_standard(out, header);
+}
+
+fn put_item(out: &mut [u64], m: Message)
+    requires { ⌜ 33 ≤ length (now out) ⌝ }
+    ensures { λ _. ⌜ now (out .exit) ≡ over (now (out .entry)) 0 (itemNumbers m) ⌝ }
+{
+    let extended = m.extended_header;
+    let content = m.payload;
+    put_lead(out, m);
+    put_extended(out, extended);
+    put_payload(out, content);
+}
+
+// The numbers of what a message was parsed to, from the first place on, if there are places for all of a message.
+pub fn put_message(out: &mut [u64], p: ParsedMessage)
+    ensures { λ _. ⌜ now (out .exit) ≡ messageLaid (now (out .entry)) p ⌝ }
+{
+    if 33 <= out.len() {
+        match p {
+            ParsedMessage::Item(m) => put_item(out, m),
+            ParsedMessage::FilteredOut(n) => put2(out, 0, 1, n as u64),
+        }
+    }
+}
+
+// ---- numbers of an argument's enums
+
+// A signed number by two's complement of 64 bits.
+fn signed_bits(n: i64) -> u64
+    ensures { λ r. ⌜ r ≡ signedBits n ⌝ }
+{
+    if n >= 0 {
+        return n as u64;
+    }
+    18446744073709551615 - ((-1 - n) as u64)
+}
+
+fn bits_of_i8(n: i8) -> u64
+    ensures { λ r. ⌜ r ≡ signedBits n ⌝ }
+{
+    signed_bits(n as i64)
+}
+
+fn bits_of_i16(n: i16) -> u64
+    ensures { λ r. ⌜ r ≡ signedBits n ⌝ }
+{
+    signed_bits(n as i64)
+}
+
+fn bits_of_i32(n: i32) -> u64
+    ensures { λ r. ⌜ r ≡ signedBits n ⌝ }
+{
+    signed_bits(n as i64)
+}
+
+// A float's pattern.
+fn bits_of_f32(x: f32) -> u64
+    ensures { λ r. ⌜ r ≡ toBits binary32 x ⌝ }
+{
+    reals::bits32(Real32::Number(x)) as u64
+}
+
+fn bits_of_f64(x: f64) -> u64
+    ensures { λ r. ⌜ r ≡ toBits binary64 x ⌝ }
+{
+    reals::bits64(Real64::Number(x))
+}
+
+fn length_bits(l: TypeLength) -> u64
+    ensures { λ r. ⌜ r ≡ lengthBits l ⌝ }
+{
+    match l {
+        TypeLength::BitLength8 => 8,
+        TypeLength::BitLength16 => 16,
+        TypeLength::BitLength32 => 32,
+        TypeLength::BitLength64 => 64,
+        TypeLength::BitLength128 => 128,
+    }
+}
+
+fn width_bits(w: FloatWidth) -> u64
+    ensures { λ r. ⌜ r ≡ widthBits w ⌝ }
+{
+    match w {
+        FloatWidth::Width32 => 32,
+        FloatWidth::Width64 => 64,
+    }
+}
+
+fn kind_number(k: TypeInfoKind) -> u64
+    ensures { λ r. ⌜ r ≡ kindNumber k ⌝ }
+{
+    match k {
+        TypeInfoKind::Bool => 0,
+        TypeInfoKind::Signed(_) => 1,
+        TypeInfoKind::SignedFixedPoint(_) => 2,
+        TypeInfoKind::Unsigned(_) => 3,
+        TypeInfoKind::UnsignedFixedPoint(_) => 4,
+        TypeInfoKind::Float(_) => 5,
+        TypeInfoKind::StringType => 6,
+        TypeInfoKind::Raw => 7,
+    }
+}
+
+fn kind_bits(k: TypeInfoKind) -> u64
+    ensures { λ r. ⌜ r ≡ kindBits k ⌝ }
+{
+    match k {
+        TypeInfoKind::Bool => 0,
+        TypeInfoKind::Signed(whole) => length_bits(whole),
+        TypeInfoKind::SignedFixedPoint(real) => width_bits(real),
+        TypeInfoKind::Unsigned(natural) => length_bits(natural),
+        TypeInfoKind::UnsignedFixedPoint(scaled) => width_bits(scaled),
+        TypeInfoKind::Float(float) => width_bits(float),
+        TypeInfoKind::StringType => 0,
+        TypeInfoKind::Raw => 0,
+    }
+}
+
+fn coding_number(c: StringCoding) -> u64
+    ensures { λ r. ⌜ r ≡ codingNumber c ⌝ }
+{
+    match c {
+        StringCoding::ASCII => 0,
+        StringCoding::UTF8 => 1,
+        StringCoding::Reserved(n) => n as u64,
+    }
+}
+
+fn value_number(v: Value) -> u64
+    ensures { λ r. ⌜ r ≡ valueNumber v ⌝ }
+{
+    match v {
+        Value::Bool(_) => 0,
+        Value::U8(_) => 1,
+        Value::U16(_) => 2,
+        Value::U32(_) => 3,
+        Value::U64(_) => 4,
+        Value::U128 { high, low } => 5,
+        Value::I8(_) => 6,
+        Value::I16(_) => 7,
+        Value::I32(_) => 8,
+        Value::I64(_) => 9,
+        Value::I128 { high, low } => 10,
+        Value::F32(_) => 11,
+        Value::F64(_) => 12,
+        Value::F32NotANumber(_) => 11,
+        Value::F64NotANumber(_) => 12,
+        Value::StringVal(_) => 13,
+        Value::Raw(_) => 14,
+    }
+}
+
+fn value_first(v: Value) -> u64
+    ensures { λ r. ⌜ r ≡ valueFirst v ⌝ }
+{
+    match v {
+        Value::Bool(n) => n as u64,
+        Value::U8(n) => n as u64,
+        Value::U16(n) => n as u64,
+        Value::U32(n) => n as u64,
+        Value::U64(n) => n,
+        Value::U128 { high, low } => high,
+        Value::I8(n) => bits_of_i8(n),
+        Value::I16(n) => bits_of_i16(n),
+        Value::I32(n) => bits_of_i32(n),
+        Value::I64(n) => signed_bits(n),
+        Value::I128 { high, low } => signed_bits(high),
+        Value::F32(x) => bits_of_f32(x),
+        Value::F64(x) => bits_of_f64(x),
+        Value::F32NotANumber(pattern) => pattern as u64,
+        Value::F64NotANumber(pattern) => pattern,
+        Value::StringVal(text) => text.start as u64,
+        Value::Raw(run) => run.start as u64,
+    }
+}
+
+fn value_second(v: Value) -> u64
+    ensures { λ r. ⌜ r ≡ valueSecond v ⌝ }
+{
+    match v {
+        Value::Bool(_) => 0,
+        Value::U8(_) => 0,
+        Value::U16(_) => 0,
+        Value::U32(_) => 0,
+        Value::U64(_) => 0,
+        Value::U128 { high, low } => low,
+        Value::I8(_) => 0,
+        Value::I16(_) => 0,
+        Value::I32(_) => 0,
+        Value::I64(_) => 0,
+        Value::I128 { high, low } => low,
+        Value::F32(_) => 0,
+        Value::F64(_) => 0,
+        Value::F32NotANumber(_) => 0,
+        Value::F64NotANumber(_) => 0,
+        Value::StringVal(text) => text.len as u64,
+        Value::Raw(run) => run.len as u64,
+    }
+}
+
+fn offset_width(o: FixedPointValue) -> u64
+    ensures { λ r. ⌜ r ≡ offsetWidth o ⌝ }
+{
+    match o {
+        FixedPointValue::I32(_) => 32,
+        FixedPointValue::I64(_) => 64,
+    }
+}
+
+fn offset_bits(o: FixedPointValue) -> u64
+    ensures { λ r. ⌜ r ≡ offsetBits o ⌝ }
+{
+    match o {
+        FixedPointValue::I32(n) => bits_of_i32(n),
+        FixedPointValue::I64(m) => signed_bits(m),
+    }
+}
+
+// ---- the groups of an argument's numbers, each at its place
+
+fn put_kind(out: &mut [u64], k: TypeInfoKind)
+    requires { ⌜ 23 ≤ length (now out) ⌝ }
+    ensures { λ _. ⌜ now (out .exit) ≡ over (now (out .entry)) 5 (kindNumbers k) ⌝ }
+{
+    let kind = kind_number(k);
+    let bits = kind_bits(k);
+    put2(out, 5, kind, bits);
+}
+
+fn put_coding(out: &mut [u64], t: TypeInfo)
+    requires { ⌜ 23 ≤ length (now out) ⌝ }
+    ensures { λ _. ⌜ now (out .exit) ≡ over (now (out .entry)) 7 (codingNumbers t) ⌝ }
+{
+    let its_coding = t.coding;
+    let coding = coding_number(its_coding);
+    let variable = flag(t.has_variable_info);
+    let trace = flag(t.has_trace_info);
+    put3(out, 7, coding, variable, trace);
+}
+
+fn put_point(out: &mut [u64], o: OptPoint)
+    requires { ⌜ 23 ≤ length (now out) ⌝ }
+    ensures { λ _. ⌜ now (out .exit) ≡ over (now (out .entry)) 16 (pointNumbers o) ⌝ }
+{
+    match o {
+        OptPoint::Present(p) => {
+            let offset = p.offset;
+            let width = offset_width(offset);
+            let bits = offset_bits(offset);
+            put4(out, 16, 1, p.pattern as u64, width, bits);
+        }
+        OptPoint::Absent => put4(out, 16, 0, 0, 0, 0),
+    }
+}
+
+fn put_value(out: &mut [u64], v: Value)
+    requires { ⌜ 23 ≤ length (now out) ⌝ }
+    ensures { λ _. ⌜ now (out .exit) ≡ over (now (out .entry)) 20 (valueNumbers v) ⌝ }
+{
+    let kind = value_number(v);
+    let first = value_first(v);
+    let second = value_second(v);
+    put3(out, 20, kind, first, second);
+}
+
+// Where an argument stands, and its type info.
+fn put_type(out: &mut [u64], a: Argument)
+    requires { ⌜ 23 ≤ length (now out) ⌝ }
+    ensures { λ _. ⌜ now (out .exit) ≡ over (now (out .entry)) 3 (typeNumbers a) ⌝ }
+{
+    let info = a.type_info;
+    let kind = info.kind;
+    put2(out, 3, a.start as u64, a.end as u64);
+    put_kind(out, kind);
+    put_coding(out, info);
+}
+
+fn put_names(out: &mut [u64], name: OptRange, unit: OptRange)
+    requires { ⌜ 23 ≤ length (now out) ⌝ }
+    ensures { λ _. ⌜ now (out .exit) ≡ over (now (out .entry)) 10 (nameNumbers name unit) ⌝ }
+{
+    put_range(out, 10, name);
+    put_range(out, 13, unit);
+}
+
+// Its names, its fixed point and its value.
+fn put_content(out: &mut [u64], a: Argument)
+    requires { ⌜ 23 ≤ length (now out) ⌝ }
+    ensures { λ _. ⌜ now (out .exit) ≡ over (now (out .entry)) 10 (contentNumbers a) ⌝ }
+{
+    let name = a.name;
+    let unit = a.unit;
+    let point = a.fixed_point;
+    let value = a.value;
+    put_names(out, name, unit);
+    put_point(out, point);
+    put_value(out, value);
+}
+
+fn put_handed(out: &mut [u64], at: usize, left: usize, big: bool, a: Argument)
+    requires { ⌜ 23 ≤ length (now out) ⌝ }
+    ensures { λ _. ⌜ now (out .exit) ≡ over (now (out .entry)) 0 (argumentNumbers at left big a) ⌝ }
+{
+    let order = flag(big);
+    put3(out, 0, at as u64, left as u64, order);
+    put_type(out, a);
+    put_content(out, a);
+}
+
+// The numbers of an argument and of the cursor behind it, from the first place on, if there are places for all.
+pub fn put_argument(out: &mut [u64], at: usize, left: usize, big: bool, a: Argument)
+    ensures { λ _. ⌜ now (out .exit) ≡ argumentLaid (now (out .entry)) at left big a ⌝ }
+{
+    if 23 <= out.len() {
+        put_handed(out, at, left, big, a);
+    }
+}

@@ -1,0 +1,155 @@
+//! The proved calls for a Rust host: safe functions with Rust's types over the archive's numbers.
+//!
+//! Texts are parts of the bytes that the caller gave: a [`Text`] is a place and a length, and [`Text::of`] gives the bytes.
+//!
+//! ```
+//! // document 01's P2: a message of eight bytes, big-endian, with the id 42 and nothing behind it
+//! let bytes = [0x22, 7, 0, 8, 0, 0, 0, 42];
+//! let (parsed, used) = host::message(&bytes, &[], false).unwrap();
+//! assert_eq!(used, 8);
+//! let host::Parsed::Item(message) = parsed else { panic!() };
+//! assert_eq!(message.header.message_counter, 7);
+//! assert_eq!(message.payload, host::Payload::NonVerbose { id: 42, rest: host::Text { start: 8, len: 0 } });
+//! ```
+
+mod argument;
+mod message;
+pub mod raw;
+pub mod text;
+
+pub use argument::{arguments, signals, Argument, Arguments, FixedPoint, Kind, Offset, Signals, TypeInfo, Value};
+pub use message::{message, Cursor, ExtendedHeader, Message, MessageType, Parsed, Payload, StandardHeader, StorageHeader};
+
+/// Why there is no value: document 01's numbers 1 to 4.
+#[derive(Clone, Copy, Debug, PartialEq, Eq)]
+pub enum Refusal {
+    /// The filter's bytes break a rule.
+    BadFilter,
+    /// More bytes could help: at least so many, 0 for unknown.
+    Incomplete(u64),
+    /// The bytes are no message: document 01's reason.
+    Hickup(u64),
+    /// The payload is too short for what it must hold.
+    Unrecoverable,
+}
+
+/// A part of the bytes that were given.
+#[derive(Clone, Copy, Debug, PartialEq, Eq)]
+pub struct Text {
+    /// Where it stands.
+    pub start: usize,
+    /// How many bytes it has.
+    pub len: usize,
+}
+
+impl Text {
+    /// The bytes themselves, of the slice that the call was given.
+    ///
+    /// ```
+    /// assert_eq!(host::Text { start: 1, len: 2 }.of(b"abcd"), b"bc");
+    /// ```
+    pub fn of<'a>(&self, bytes: &'a [u8]) -> &'a [u8] {
+        &bytes[self.start..self.start + self.len]
+    }
+}
+
+/// The refusal that an answer is, if it is one.
+fn refused(answer: raw::Answer) -> Result<(), Refusal> {
+    match answer.number {
+        raw::DONE => Ok(()),
+        raw::BAD_FILTER => Err(Refusal::BadFilter),
+        raw::INCOMPLETE => Err(Refusal::Incomplete(answer.value)),
+        raw::HICKUP => Err(Refusal::Hickup(answer.value)),
+        raw::UNRECOVERABLE => Err(Refusal::Unrecoverable),
+        // the slices lent here are as long as they must be
+        other => unreachable!("answer number {other}"),
+    }
+}
+
+fn text(out: &[u64], at: usize) -> Text {
+    Text { start: out[at] as usize, len: out[at + 1] as usize }
+}
+
+fn maybe_text(out: &[u64], at: usize) -> Option<Text> {
+    (out[at] == 1).then(|| text(out, at + 1))
+}
+
+/// The first place from `at` on where the storage pattern stands.
+///
+/// ```
+/// assert_eq!(host::forward_to_next_storage_header(b"..DLT\x01..", 0), Some(2));
+/// assert_eq!(host::forward_to_next_storage_header(b"..DLT\x01..", 3), None);
+/// ```
+pub fn forward_to_next_storage_header(bytes: &[u8], at: usize) -> Option<usize> {
+    let answer = raw::forward(bytes, at);
+    (answer.value == 1).then_some(answer.used as usize)
+}
+
+/// Passes one message whose storage header stands at the front: how many bytes it had (none of no bytes), and how many were used.
+///
+/// ```
+/// assert_eq!(host::consume_msg(&[]), Ok((None, 0)));
+/// assert_eq!(host::consume_msg(b"DLX"), Err(host::Refusal::Hickup(4)));
+/// assert_eq!(host::consume_msg(b"DL"), Err(host::Refusal::Incomplete(1)));
+/// ```
+pub fn consume_msg(bytes: &[u8]) -> Result<(Option<u64>, usize), Refusal> {
+    let answer = raw::consume(bytes);
+    refused(answer)?;
+    Ok(((answer.value != 0).then_some(answer.value), answer.used as usize))
+}
+
+/// How many arguments the data has for these type info words, and how many bytes they use.
+///
+/// ```
+/// // an unsigned number of 16 bits
+/// assert_eq!(host::construct_arguments(false, &[0x42], &[0x34, 0x12, 0xFF]), Ok((1, 2)));
+/// assert_eq!(host::construct_arguments(false, &[0x42], &[0x34]), Err(host::Refusal::Hickup(5)));
+/// ```
+pub fn construct_arguments(big: bool, words: &[u32], data: &[u8]) -> Result<(usize, usize), Refusal> {
+    let answer = raw::construct(big, words, data);
+    refused(answer)?;
+    Ok((answer.value as usize, answer.used as usize))
+}
+
+// The index call's wrapper comes here: a State, and a Vec of entries owned by the host.
+
+#[cfg(test)]
+mod tests {
+    use super::*;
+
+    #[test]
+    fn a_short_out_is_told_first_and_left_alone() {
+        let bytes = [0x22, 7, 0, 8, 0, 0, 0, 42];
+        for len in 0..raw::MESSAGE_SIZE {
+            let mut out = vec![9; len];
+            let answer = raw::message(&bytes, &[1], false, &mut out);
+            assert_eq!(answer, raw::Answer { number: raw::SHORT_OUT, value: 33, used: 0 });
+            assert!(out.iter().all(|&n| n == 9));
+        }
+        for len in 0..raw::ARGUMENT_SIZE {
+            let mut out = vec![9; len];
+            assert_eq!(raw::argument(&bytes, 0, 1, false, &mut out).number, raw::SHORT_OUT);
+            assert_eq!(raw::signal(&[0x42], &bytes, 0, 0, false, &mut out).number, raw::SHORT_OUT);
+            assert!(out.iter().all(|&n| n == 9));
+        }
+    }
+
+    #[test]
+    fn a_refusal_changes_nothing_lent() {
+        let mut out = [9; 40];
+        assert_eq!(raw::message(&[0x22, 7, 0, 8], &[], false, &mut out).number, raw::INCOMPLETE);
+        assert_eq!(raw::message(&[0x22, 7, 0, 8], &[1], false, &mut out).number, raw::BAD_FILTER);
+        assert_eq!(raw::message(&[0x22, 7, 0, 3], &[], false, &mut out).number, raw::HICKUP);
+        assert_eq!(raw::message(&[0x22, 7, 0, 7, 0, 0, 0], &[], false, &mut out).number, raw::UNRECOVERABLE);
+        assert_eq!(out, [9; 40]);
+        raw::message(&[0x22, 7, 0, 8, 0, 0, 0, 42], &[], false, &mut out);
+        assert_eq!(out[33..], [9; 7]);
+    }
+
+    #[test]
+    fn a_position_past_the_end_is_nothing_left() {
+        assert_eq!(forward_to_next_storage_header(b"DLT\x01", usize::MAX), None);
+        let mut out = [0; 23];
+        assert_eq!(raw::argument(&[1, 2], usize::MAX, 1, true, &mut out), raw::Answer { number: 2, value: 4, used: 0 });
+    }
+}

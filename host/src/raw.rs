@@ -1,0 +1,58 @@
+//! The calls as the archive has them, declared once, and the layout of their numbers (made from the C header).
+
+#![allow(missing_docs)]
+
+include!(concat!(env!("OUT_DIR"), "/layout.rs"));
+
+/// A call's answer: document 01's number, the need or the reason, the bytes used.
+#[repr(C)]
+#[derive(Clone, Copy, Debug, PartialEq, Eq)]
+pub struct Answer {
+    pub number: u64,
+    pub value: u64,
+    pub used: u64,
+}
+
+mod archive {
+    use super::Answer;
+    extern "C" {
+        pub fn dlt_message(s: *const u8, s_len: usize, f: *const u8, f_len: usize, storage: bool, out: *mut u64, out_len: usize) -> Answer;
+        pub fn dlt_argument(s: *const u8, s_len: usize, at: usize, left: usize, big: bool, out: *mut u64, out_len: usize) -> Answer;
+        pub fn dlt_forward_to_next_storage_header(s: *const u8, s_len: usize, at: usize) -> Answer;
+        pub fn dlt_consume_msg(s: *const u8, s_len: usize) -> Answer;
+        pub fn dlt_construct_arguments(big: bool, words: *const u32, words_len: usize, data: *const u8, data_len: usize) -> Answer;
+        pub fn dlt_signal(words: *const u32, words_len: usize, data: *const u8, data_len: usize, at: usize, word: usize, big: bool, out: *mut u64, out_len: usize) -> Answer;
+    }
+}
+
+// Safety of each: the pointers and lengths are those of slices that live for the call, and the archive's code is proved to stay within them.
+
+/// One message at the front of `s`, under the filter `f`; its numbers go into `out`.
+pub fn message(s: &[u8], f: &[u8], storage: bool, out: &mut [u64]) -> Answer {
+    unsafe { archive::dlt_message(s.as_ptr(), s.len(), f.as_ptr(), f.len(), storage, out.as_mut_ptr(), out.len()) }
+}
+
+/// The next argument of a list by its cursor; its numbers go into `out`.
+pub fn argument(s: &[u8], at: usize, left: usize, big: bool, out: &mut [u64]) -> Answer {
+    unsafe { archive::dlt_argument(s.as_ptr(), s.len(), at, left, big, out.as_mut_ptr(), out.len()) }
+}
+
+/// The first storage pattern from `at` on.
+pub fn forward(s: &[u8], at: usize) -> Answer {
+    unsafe { archive::dlt_forward_to_next_storage_header(s.as_ptr(), s.len(), at) }
+}
+
+/// Passes one message with its storage header.
+pub fn consume(s: &[u8]) -> Answer {
+    unsafe { archive::dlt_consume_msg(s.as_ptr(), s.len()) }
+}
+
+/// How many arguments there are for these words, and how many bytes they use.
+pub fn construct(big: bool, words: &[u32], data: &[u8]) -> Answer {
+    unsafe { archive::dlt_construct_arguments(big, words.as_ptr(), words.len(), data.as_ptr(), data.len()) }
+}
+
+/// The next signal by its cursor; its numbers go into `out`.
+pub fn signal(words: &[u32], data: &[u8], at: usize, word: usize, big: bool, out: &mut [u64]) -> Answer {
+    unsafe { archive::dlt_signal(words.as_ptr(), words.len(), data.as_ptr(), data.len(), at, word, big, out.as_mut_ptr(), out.len()) }
+}
