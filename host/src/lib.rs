@@ -16,8 +16,10 @@ mod argument;
 mod message;
 pub mod raw;
 pub mod text;
+mod trace;
 
 pub use argument::{arguments, signals, Argument, Arguments, FixedPoint, Kind, Offset, Signals, TypeInfo, Value};
+pub use trace::{index, End, Entry, EntryKind, IndexRefusal, State};
 pub use message::{message, Cursor, ExtendedHeader, Message, MessageType, Parsed, Payload, StandardHeader, StorageHeader};
 
 /// Why there is no value: document 01's numbers 1 to 4.

@@ -167,6 +167,35 @@ pub fn args(big: bool, words: &[u32], data: &[u8]) -> String {
     }
 }
 
+/// The answer to `index`, over a fresh table of `cap` entries.
+pub fn index(cap: usize, at: usize, used: usize, filter: &[u8], bytes: &[u8]) -> String {
+    let mut table = vec![crate::Entry::default(); cap];
+    let given = crate::State { at, used };
+    let (number, after, need) = match crate::index(bytes, filter, given, &mut table) {
+        Ok((after, crate::End::Waits(need))) => (0, after, need.to_string()),
+        Ok((after, crate::End::Full)) => (7, after, "-".to_string()),
+        Err(crate::IndexRefusal::BadFilter) => (1, given, "-".to_string()),
+        Err(crate::IndexRefusal::BadState) => (5, given, "-".to_string()),
+        Err(crate::IndexRefusal::TooLong) => (6, given, "-".to_string()),
+    };
+    let mut line = format!("{number} resume={} used={} need={need}", after.at, after.used);
+    for entry in table.iter().take(after.used).skip(used) {
+        line += &format!(" ({})", entry_text(entry));
+    }
+    line
+}
+
+/// An entry as the listing shows it.
+pub fn entry_text(entry: &crate::Entry) -> String {
+    let kind = match entry.kind() {
+        crate::EntryKind::Item => "item",
+        crate::EntryKind::Filtered => "filtered",
+        crate::EntryKind::Hickup => "hickup",
+        crate::EntryKind::Unrecoverable => "unrecoverable",
+    };
+    format!("{} {} {} {kind}", entry.start, entry.skipped, entry.length)
+}
+
 /// The answer to a request line of one of these kinds; None for any other line.
 pub fn answer(line: &str) -> Option<String> {
     let words: Vec<&str> = line.split(' ').collect();
@@ -175,6 +204,10 @@ pub fn answer(line: &str) -> Option<String> {
         ["fwd", bytes] => Some(fwd(&hex(bytes)?)),
         ["consume", bytes] => Some(consume(&hex(bytes)?)),
         ["args", order @ ("L" | "l" | "B" | "b"), words, data] => Some(args(order.eq_ignore_ascii_case("b"), &hex_words(words)?, &hex(data)?)),
+        ["index", cap, at, used, filter, bytes] => {
+            let number = |word: &str| word.parse::<usize>().ok();
+            Some(index(number(cap).filter(|cap| *cap <= 4096)?, number(at)?, number(used)?, &hex(filter)?, &hex(bytes)?))
+        }
         _ => None,
     }
 }

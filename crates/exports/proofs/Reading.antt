@@ -28,7 +28,9 @@ use Rattle.parse.specs.declared.MessageAns.{MessageAns}
 use Rattle.parse.specs.declared.GotParsed.{GotParsed}
 use Rattle.numbers.specs.Layout.{messageLaid}
 use Rattle.numbers.specs.Arguments.{argumentLaid}
-use Rattle.exports.specs.Calls.{Outcome, told, messageShown, messageCall, turnShown, argumentCall, signalShown, signalCall, foundAnswer, consumeAnswer, constructAnswer}
+use Rattle.index.specs.Index.{numberOf, needOf, outcome}
+use Rattle.index.specs.declared.Indexed.{Indexed}
+use Rattle.exports.specs.Calls.{Outcome, told, messageShown, messageCall, turnShown, argumentCall, signalShown, signalCall, IndexOutcome, indexShown, indexCall, foundAnswer, consumeAnswer, constructAnswer}
 use Rattle.exports.specs.declared.Answer.{Answer}
 
 abbrev pub numbers : ℕ → ℕ → ℕ → Answer
@@ -162,4 +164,11 @@ module _ (a : Answer) (r : ConstructAns) (x : Ans ℕ) (d : constructAns r ≡ x
   unfolding constructAnswer
   construct-hickup n q e = e ∙ ap constructAnswer (ap constructAns (sym q) ∙ d)
 
-pub ruleset calls = (message-short, message-told, message-bad, message-done, message-need, message-hickup, message-broken, argument-short, argument-told, turn-at, turn-item, turn-end, turn-need, turn-hickup, signal-short, signal-told, signal-at, signal-item, signal-end, signal-hickup, found-at, found-none, consume-told, consume-need, consume-hickup, count-some, count-none, construct-done, construct-hickup)
+-- ---- dlt_index: r is what the call answered, X the table that it left
+module _ (f s T X : List ℕ) (at used : ℕ) (r : Indexed) (n m : ℕ) where
+  pub index-told : outcome f s (record { at = at; used = used }) T ≡ record { answer = r; table = X } → n ≡ numberOf (r .end) → m ≡ needOf (r .end)
+      → indexCall f s at used T ≡ record { answer = record { number = n; need = m; at = r .state .at; used = r .state .used }; table = X }
+  unfolding indexCall indexShown
+  index-told e p q = rw (e, p, q)
+
+pub ruleset calls = (index-told, message-short, message-told, message-bad, message-done, message-need, message-hickup, message-broken, argument-short, argument-told, turn-at, turn-item, turn-end, turn-need, turn-hickup, signal-short, signal-told, signal-at, signal-item, signal-end, signal-hickup, found-at, found-none, consume-told, consume-need, consume-hickup, count-some, count-none, construct-done, construct-hickup)

@@ -17,6 +17,7 @@ use Rattle.storage.specs.declared.OptStored.{OptStored}
 use Rattle.filtering.specs.declared.OptExtended.{OptExtended}
 use Rattle.payload.specs.declared.PayloadContent.{PayloadContent}
 use Rattle.cursor.specs.declared.Cursor.{Cursor}
+use Rattle.cursor.specs.declared.RawCursor.{RawCursor}
 use Rattle.messageinfo.specs.declared.ControlType.{ControlType}
 use Rattle.messageinfo.specs.declared.ExtendedHeader.{ExtendedHeader}
 use Rattle.wire.specs.declared.Range.{Range}
@@ -70,7 +71,7 @@ module _ (T X : List ℕ) (k : ℕ) (p : PayloadContent) (y : ℕ) where
   unfolding payloadNumbers
   verbose-row c q e h = h ∙ rw (q, e)
 
-  pub trace-row : (c : Cursor) → p ≡ PayloadContent.NetworkTrace c → y ≡ oneIf (c .big) → X ≡ over T k (3 ∷ 0 ∷ c .at ∷ c .left ∷ y ∷ []) → X ≡ over T k (payloadNumbers p)
+  pub trace-row : (c : RawCursor) → p ≡ PayloadContent.NetworkTrace c → y ≡ oneIf (c .big) → X ≡ over T k (3 ∷ 0 ∷ c .at ∷ c .left ∷ y ∷ []) → X ≡ over T k (payloadNumbers p)
   unfolding payloadNumbers
   trace-row c q e h = h ∙ rw (q, e)
 

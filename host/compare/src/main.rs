@@ -1,9 +1,9 @@
 //! compare KIND COUNT SEED [THREADS]: makes requests by seed as `oracle/compare` does, asks the crate and the archive in this process, and counts the
-//! answers that differ. KIND is msg, consume, fwd, args or all. With threads, each has a seed of its own: SEED, SEED + 1, ..
+//! answers that differ. KIND is msg, consume, fwd, args, index or all. With threads, each has a seed of its own: SEED, SEED + 1, ..
 
 use std::time::Instant;
 
-const KINDS: [&str; 4] = ["msg", "consume", "fwd", "args"];
+const KINDS: [&str; 5] = ["msg", "consume", "fwd", "args", "index"];
 
 struct Count {
     asked: u64,
