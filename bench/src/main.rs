@@ -74,6 +74,46 @@ fn core_messages(bytes: &[u8], filter: Option<&ProcessedDltFilterConfig>) -> u64
     items
 }
 
+/// The trace index from a fresh state: how many entries.
+fn ours_indexed(bytes: &[u8], filter: &[u8], table: &mut [u64]) -> u64 {
+    host::raw::index(bytes, filter, 0, 0, table).used
+}
+
+/// The same in calls that are each given the bytes from the resume position on, `more` of them new.
+fn resumed(bytes: &[u8], more: usize, table: &mut [u64]) -> u64 {
+    let (mut at, mut used, mut end) = (0, 0, 0);
+    while end < bytes.len() {
+        end = bytes.len().min(end + more);
+        let answer = host::raw::index(&bytes[at..end], &[], at, used, table);
+        (at, used) = (answer.at as usize, answer.used as usize);
+    }
+    used as u64
+}
+
+/// Document 01's walk by the crate's own calls.
+fn core_indexed(bytes: &[u8], filter: Option<&ProcessedDltFilterConfig>) -> u64 {
+    let mut entries: Vec<(usize, usize, usize, u8)> = Vec::new();
+    let mut at = 0;
+    while at < bytes.len() {
+        let read = dlt_message(&bytes[at..], filter, true);
+        if matches!(read, Err(parse::DltParseError::IncompleteParse { .. })) {
+            break;
+        }
+        let Some((skipped, _)) = parse::forward_to_next_storage_header(&bytes[at..]) else { break };
+        let start = at + skipped as usize;
+        let declared = usize::from(u16::from_be_bytes([bytes[start + 18], bytes[start + 19]]));
+        let (length, kind) = match read {
+            Ok((_, ParsedMessage::Item(_))) => (16 + declared, 0),
+            Ok(_) => (16 + declared, 1),
+            Err(_) => (4, 2),
+        };
+        entries.push((start, skipped as usize, length, kind));
+        at = start + length;
+    }
+    black_box(&entries);
+    entries.len() as u64
+}
+
 fn ours_consumed(bytes: &[u8]) -> u64 {
     let (mut at, mut count) = (0, 0);
     while at < bytes.len() {
@@ -180,7 +220,7 @@ fn main() {
     let rounds = std::env::args().nth(1).and_then(|word| word.parse().ok()).unwrap_or(5);
     println!("Machine: {}. Best of {rounds} rounds, in turn. `out` is not cleared between calls.\n", machine());
     println!("| Call and input | Count | Ours | Beside it | Ratio |\n|---|---|---|---|---|");
-    let trace = traces::mixed(SIZE, 7);
+    let trace = traces::mixed(SIZE, 7, true);
     row("dlt_message, mixed trace", trace.len(), "dlt-core", in_turn(rounds, || ours_messages(&trace, &[], false), || core_messages(&trace, None)));
     row("the same, and every argument by its cursor", trace.len(), "dlt-core", in_turn(rounds, || ours_messages(&trace, &[], true), || core_messages(&trace, None)));
     let (bytes, config) = filters(4);
@@ -188,9 +228,15 @@ fn main() {
     if let Some(real) = corpus() {
         row("dlt_message, corpus repeated", real.len(), "dlt-core", in_turn(rounds, || ours_messages(&real, &[], false), || core_messages(&real, None)));
     }
-    let clean = traces::repeated(SIZE, &traces::mixed(40_000, 3)[..]);
-    row("dlt_consume_msg, trace up to its junk", clean.len(), "dlt-core", in_turn(rounds, || ours_consumed(&clean), || core_consumed(&clean)));
-    // the index walk, with and without a filter, and 1, 4, 16 and 64 MB of it, come here
+    let clean = traces::mixed(SIZE, 7, false);
+    row("dlt_consume_msg, the same without junk", clean.len(), "dlt-core", in_turn(rounds, || ours_consumed(&clean), || core_consumed(&clean)));
+    let mut table = vec![0; 4 * (SIZE / 20 + 1)];
+    for part in [SIZE / 64, SIZE / 16, SIZE / 4, SIZE] {
+        row(&format!("index, {} MB of the mixed trace", part >> 20), part, "dlt-core", in_turn(rounds, || ours_indexed(&trace[..part], &[], &mut table), || core_indexed(&trace[..part], None)));
+    }
+    row("index, filter of three sets of 4", trace.len(), "dlt-core", in_turn(rounds, || ours_indexed(&trace, &bytes, &mut table), || core_indexed(&trace, Some(&config))));
+    let mut other = table.clone();
+    row("index, in calls of 64 KB", trace.len(), "one call", in_turn(rounds, || resumed(&trace, 1 << 16, &mut table), || resumed(&trace, SIZE * 2, &mut other)));
     searches(rounds);
     worst(rounds);
 }
@@ -213,11 +259,12 @@ fn worst(rounds: u32) {
     for (name, bytes) in [
         ("20-byte hickups", traces::hickups(SIZE / 4)),
         ("255 arguments each", traces::repeated(SIZE, &traces::many_arguments())),
+        ("counted arguments far past the declared end", traces::past_the_end(SIZE / 16)),
         ("strings of 65,503 bytes", traces::repeated(SIZE, &traces::long_string())),
     ] {
         row(&format!("dlt_message, {name}"), bytes.len(), "dlt-core", in_turn(rounds, || ours_messages(&bytes, &[], false), || core_messages(&bytes, None)));
     }
-    let small = traces::mixed(SIZE / 16, 7);
+    let small = traces::mixed(SIZE / 16, 7, true);
     let (bytes, config) = filters(64);
     row("dlt_message, filter of three sets of 64", small.len(), "dlt-core", in_turn(rounds, || ours_messages(&small, &bytes, false), || core_messages(&small, Some(&config))));
 }

@@ -72,13 +72,13 @@ fn integer(out: &mut Vec<u8>, rng: &mut Rng, big: bool) {
     bytes(out, rng, width);
 }
 
-/// 70 % verbose logs with 1 to 4 string and integer arguments, 20 % non-verbose, 10 % control, a little junk.
-pub fn mixed(size: usize, seed: u64) -> Vec<u8> {
+/// 70 % verbose logs with 1 to 4 string and integer arguments, 20 % non-verbose, 10 % control, a little junk if wanted.
+pub fn mixed(size: usize, seed: u64, junk: bool) -> Vec<u8> {
     let mut rng = Rng::new(seed);
     let mut out = Vec::with_capacity(size + 1000);
     let mut payload = Vec::new();
     while out.len() < size {
-        if rng.below(200) == 0 {
+        if junk && rng.below(200) == 0 {
             let count = rng.below(30);
             bytes(&mut out, &mut rng, count);
         }
@@ -142,4 +142,12 @@ pub fn long_string() -> Vec<u8> {
 pub fn random(size: usize, seed: u64) -> Vec<u8> {
     let mut rng = Rng::new(seed);
     (0..size).map(|_| rng.next() as u8).collect()
+}
+
+/// Short messages that count an argument whose bytes run far past the declared end: a string of 65,535 bytes, or as many as there are.
+pub fn past_the_end(size: usize) -> Vec<u8> {
+    let mut one = Vec::new();
+    message(&mut one, &mut Rng::new(1), &Frame { big: false, extended: Some((0x41, 40)) }, &[]);
+    one.extend([0, 0x82, 0, 0, 0xFF, 0xFF]);
+    repeated(size, &one)
 }
