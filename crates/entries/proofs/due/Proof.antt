@@ -94,7 +94,9 @@ returns-2 c =
     (ap (asked (now (a .f)) (a .filter)) (sym (tail-part (now (a .s)) (a .at))) ∙ sym (c .before .before .before .before .ask .ensures) ∙ ap stepOf (c .before .before .need .given .1))
 
 returns-3 : tie.Need-returns-3
-returns-3 c = turn-writes _ _ _ _ _ (takes (c .before .before)) (omega arith)
+returns-3 c =
+    let a = c .before .before .before .before .before .before .before .before .args in
+    turn-writes (a .filter) (a .from) (a .cap) (a .used) (a .at) (takes (c .before .before)) (omega arith)
 
 pub due-spec : {M : Type 1} → statement M
 due-spec =
