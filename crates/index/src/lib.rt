@@ -54,7 +54,7 @@ fn put(table: &mut [u64], used: usize, start: usize, skipped: usize, len: usize,
 }
 
 // Whether a trace of `n` bytes behind `from` is over the limit.
-fn too_long(from: usize, n: usize) -> bool
+pub fn too_long(from: usize, n: usize) -> bool
     ensures { λ r. ⌜ r ≡ ltb limit (from + n) ⌝ }
 {
     if 4294967295 < from {

@@ -1,0 +1,119 @@
+-- `entries::due` meets its contract: each of its ends is a case of `turnOf`, and an entry that the rule says lies within the bytes.
+-- Assumes nothing.
+use Prim.Native.Nat.{ℕ, _+_, _≤_}
+use mathlib.Core.Path.{_≡_, sym, ap, _∙_}
+use mathlib.Core.List.{List}
+use native.Mathlib.Omega.{arith}
+use lib.ListN.{length, drop, length-drop}
+use borrow.Author.Needs.{needs}
+use denote.Ref.{now}
+use Rattle.walk.specs.Walk.{Take}
+use Rattle.filter.specs.declared.Filter.{Filter}
+use Rattle.step.specs.Step.{asked, stepOf}
+use Rattle.step.proofs.Fair.{fair}
+use Rattle.index.proofs.Laws.{tail-part}
+use Rattle.entries.proofs.Turns.{turn-waits, turn-full, turn-writes}
+use Rattle.entries.proofs.due.Statement.{statement}
+use Rattle.entries.proofs.due.Tie as tie
+
+-- ---- in the arm where an entry is due: what the rule said, and that it lies within the bytes left
+
+abbrev Arm : Type 0
+Arm = tie.After-skipped
+
+abbrev bytes : Arm → List ℕ
+bytes c = now (c .before .before .before .before .before .before .args .s)
+
+abbrev filters : Arm → List ℕ
+filters c = now (c .before .before .before .before .before .before .args .f)
+
+abbrev verdict : Arm → Filter
+verdict c = c .before .before .before .before .before .before .args .filter
+
+abbrev at : Arm → ℕ
+at c = c .before .before .before .before .before .before .args .at
+
+abbrev skip : Arm → ℕ
+skip c = c .skipped .given .0 .0
+
+abbrev len : Arm → ℕ
+len c = c .skipped .given .0 .1 .0
+
+takes : (c : Arm) → asked (filters c) (verdict c) (drop (at c) (bytes c)) ≡ Take (skip c) (len c) (c .skipped .given .0 .1 .1 .0)
+takes c = ap (asked (filters c) (verdict c)) (sym (tail-part (bytes c) (at c))) ∙ sym (c .before .before .ask .ensures) ∙ ap stepOf (c .skipped .given .1)
+
+lies : (c : Arm) → at c + (skip c + len c) ≤ length (bytes c)
+lies c =
+    let inside = fair (filters c) (verdict c) .within (drop (at c) (bytes c)) _ _ _ (takes c) in
+    omega (arith, length-drop (at c) (bytes c))
+
+add-here : tie.Need-add-here
+add-here c = search needs
+
+sub-ask : tie.Need-sub-ask
+sub-ask c = search needs
+
+part-ask-start : tie.Need-part-ask-start
+part-ask-start c = search needs
+
+part-ask-end : tie.Need-part-ask-end
+part-ask-end c = search needs
+
+ask-requires : tie.Need-ask-requires
+ask-requires c κs = search needs
+
+enum-known-need : tie.Need-enum-known-need
+enum-known-need c = search needs
+
+stop-requires : tie.Need-stop-requires
+stop-requires c κs = search needs
+
+enum-known-skipped : tie.Need-enum-known-skipped
+enum-known-skipped c = search needs
+
+stop-requires-2 : tie.Need-stop-requires-2
+stop-requires-2 c κs = search needs
+
+returns : tie.Need-returns
+returns c = c .stop2 .ensures ∙ turn-full _ _ _ _ _ (takes (c .before .before .before)) (omega arith)
+
+add-start : tie.Need-add-start
+add-start c = omega (arith, lies (c .before .before))
+
+add-past : tie.Need-add-past
+add-past c = omega (arith, lies (c .before .before))
+
+add-past-2 : tie.Need-add-past-2
+add-past-2 c = omega (arith, lies (c .before .before))
+
+returns-2 : tie.Need-returns-2
+returns-2 c =
+    let a = c .before .before .before .before .before .before .before .before .args in
+    c .stop .ensures
+    ∙ turn-waits _ _ _ _ _
+    (ap (asked (now (a .f)) (a .filter)) (sym (tail-part (now (a .s)) (a .at))) ∙ sym (c .before .before .before .before .ask .ensures) ∙ ap stepOf (c .before .before .need .given .1))
+
+returns-3 : tie.Need-returns-3
+returns-3 c =
+    let a = c .before .before .before .before .before .before .before .before .args in
+    turn-writes (a .filter) (a .from) (a .cap) (a .used) (a .at) (takes (c .before .before)) (omega arith)
+
+pub due-spec : {M : Type 1} → statement M
+due-spec =
+    tie.close
+    (tie.spec
+    add-here
+    sub-ask
+    part-ask-start
+    part-ask-end
+    ask-requires
+    enum-known-need
+    stop-requires
+    enum-known-skipped
+    stop-requires-2
+    returns
+    add-start
+    add-past
+    add-past-2
+    returns-2
+    returns-3)

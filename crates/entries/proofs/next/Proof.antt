@@ -1,0 +1,18 @@
+-- `entries::next` meets its contract: `due` at the state that the turn leaves. Assumes nothing.
+use borrow.Author.Needs.{needs}
+use Rattle.entries.specs.Turn.{nextOf}
+use Rattle.entries.proofs.next.Statement.{statement}
+use Rattle.entries.proofs.next.Tie as tie
+
+add-due : tie.Need-add-due
+add-due c = search needs
+
+due-requires : tie.Need-due-requires
+due-requires c κs = search needs
+
+returns : tie.Need-returns
+unfolding nextOf
+returns c = c .due .ensures
+
+pub next-spec : {M : Type 1} → statement M
+next-spec = tie.close (tie.spec add-due due-requires returns)
