@@ -16,9 +16,14 @@ const PATTERN: [u8; 4] = *b"DLT\x01";
 pub fn forward_to_next_storage_header(s: &[u8], at: usize) -> Found
     ensures { λ r. ⌜ r ≡ find pattern (now (s .entry)) at ⌝ }
 {
+    let rest = wire::left(s, at);
+    if rest < 4 {
+        return Found::Nothing;
+    }
+    let last = s.len() - 4;
     let mut i = at;
     let found = 'places: loop {
-        if wire::left(s, i) < 4 {
+        if last < i {
             break 'places Found::Nothing;
         }
         let mut j = 0;

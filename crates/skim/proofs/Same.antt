@@ -185,16 +185,16 @@ unfolding sized skimString
 string-skims big start info =
     read (number big 2) _ _
     (λ n.
-      behind (maybeName (info .«has_variable_info») big) (skimName (info .«has_variable_info») big) _ (skimText n) (maybeName-skims (info .«has_variable_info») big)
-      (λ a. last (content false n) (skimText n) _ (text-content n) (λ v. made-skims start info a OptRange.Absent OptPoint.Absent v)))
+    behind (maybeName (info .«has_variable_info») big) (skimName (info .«has_variable_info») big) _ (skimText n) (maybeName-skims (info .«has_variable_info») big)
+    (λ a. last (content false n) (skimText n) _ (text-content n) (λ v. made-skims start info a OptRange.Absent OptPoint.Absent v)))
 
 raw-skims : (big : Bool) (start : ℕ) (info : TypeInfo) → Skims (sized true big start info) (skimRaw (info .«has_variable_info») big)
 unfolding sized skimRaw
 raw-skims big start info =
     read (number big 2) _ _
     (λ n.
-      behind (maybeName (info .«has_variable_info») big) (skimName (info .«has_variable_info») big) _ (run n) (maybeName-skims (info .«has_variable_info») big)
-      (λ a. last (content true n) (run n) _ (raw-content n) (λ v. made-skims start info a OptRange.Absent OptPoint.Absent v)))
+    behind (maybeName (info .«has_variable_info») big) (skimName (info .«has_variable_info») big) _ (run n) (maybeName-skims (info .«has_variable_info») big)
+    (λ a. last (content true n) (run n) _ (raw-content n) (λ v. made-skims start info a OptRange.Absent OptPoint.Absent v)))
 
 kind-skims : (big : Bool) (start : ℕ) (info : TypeInfo) (k : TypeInfoKind) → Skims (kinded big start info k) (skimKind big (info .«has_variable_info») k)
 unfolding kinded skimKind
