@@ -7,6 +7,7 @@ use arguments::ArgumentAns;
 use dlt::Argument;
 use dlt::OptRange;
 use dlt::Value;
+use skim::SkimAns;
 use wire::Range;
 
 // Done is where they end.
@@ -23,12 +24,12 @@ pub fn pass_arguments(s: &[u8], at: usize, count: usize, big: bool) -> PassAns
     let mut pos = at;
     let mut i: usize = 0;
     while i < count {
-        let item = match arguments::dlt_argument(s, pos, big) {
-            ArgumentAns::Done(item) => item,
-            ArgumentAns::Need(no_item) => return PassAns::Need(no_item),
-            ArgumentAns::Hickup(bad_item) => return PassAns::Hickup(bad_item),
+        let next = match skim::skim_argument(s, pos, big) {
+            SkimAns::Done(next) => next,
+            SkimAns::Need(no_item) => return PassAns::Need(no_item),
+            SkimAns::Hickup(bad_item) => return PassAns::Hickup(bad_item),
         };
-        pos = item.next;
+        pos = next;
         i += 1;
     }
     PassAns::Done(pos)

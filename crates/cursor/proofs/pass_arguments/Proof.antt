@@ -6,7 +6,9 @@ use native.Mathlib.Nat.{sub-zero}
 use mathlib.Core.Path.{_≡_, sym, _∙_}
 use Rattle.wire.specs.Parser.{times}
 use Rattle.wire.proofs.Step.{told, times-next, times-need, times-hickup, times-none}
-use Rattle.arguments.specs.Argument.{argument, argumentAns}
+use Rattle.arguments.specs.Argument.{argument}
+use Rattle.skim.specs.Skim.{skimAns}
+use Rattle.skim.proofs.Same.{was-done, was-need, was-hickup}
 use Rattle.cursor.specs.Cursor.{arguments}
 use borrow.Author.Needs.{needs}
 use Rattle.cursor.proofs.pass_arguments.Statement.{statement}
@@ -34,19 +36,19 @@ pass-arguments-spec =
     (λ c.
     let c1 = c .before in
     let l = c1 .before .before .before .before .loop in
-    sym (l .inv .1 ∙ times-need _ _ _ _ (l .i) (c1 .before .before .before .loop-test .taken) (told argumentAns (c1 .before .before .dlt-argument .ensures) (c1 .no-item .given .1))))
+    sym (l .inv .1 ∙ times-need _ _ _ _ (l .i) (c1 .before .before .before .loop-test .taken) (was-need _ _ (told skimAns (c1 .before .before .skim-argument .ensures) (c1 .no-item .given .1)))))
     (λ c. search needs)
     -- returns-2
     (λ c.
     let c1 = c .before in
     let l = c1 .before .before .before .before .loop in
-    sym (l .inv .1 ∙ times-hickup _ _ _ _ (l .i) (c1 .before .before .before .loop-test .taken) (told argumentAns (c1 .before .before .dlt-argument .ensures) (c1 .bad-item .given .1))))
+    sym (l .inv .1 ∙ times-hickup _ _ _ _ (l .i) (c1 .before .before .before .loop-test .taken) (was-hickup _ _ (told skimAns (c1 .before .before .skim-argument .ensures) (c1 .bad-item .given .1)))))
     (λ c. search needs)
     (λ c. search needs)
     -- loop-again
     (λ c.
     let c1 = c .before in
     let l = c1 .before .before .before .before .loop in
-    (omega arith, l .inv .1 ∙ times-next _ _ _ _ (l .i) (c1 .before .before .before .loop-test .taken) (told argumentAns (c1 .before .before .dlt-argument .ensures) (c1 .item .given .1))))
+    (omega arith, l .inv .1 ∙ times-next _ _ _ _ (l .i) (c1 .before .before .before .loop-test .taken) (was-done _ _ (told skimAns (c1 .before .before .skim-argument .ensures) (c1 .next .given .1)) .1)))
     -- returns-3
     (λ c. sym (c .before .loop .inv .1 ∙ times-none _ _ _ _ (c .before .loop .i) (c .loop-test .left))))

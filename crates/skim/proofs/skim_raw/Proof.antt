@@ -1,0 +1,26 @@
+-- `skim::skim_raw` meets its contract: `search` goes through the rule as the code does.
+-- Assumes nothing.
+use borrow.Author.Needs.{needs}
+use Rattle.skim.proofs.Reading.{skim-reading}
+use Rattle.skim.specs.Skim.{skimRaw}
+use Rattle.skim.proofs.skim_raw.Statement.{statement}
+use Rattle.skim.proofs.skim_raw.Tie as tie
+
+pub skim-raw-spec : {M : Type 1} → statement M
+unfolding skimRaw
+skim-raw-spec =
+    tie.close
+    (tie.spec
+    (λ c κs. search needs)
+    (λ c. search needs)
+    (λ c. search needs)
+    (λ c. search skim-reading depth 20)
+    (λ c κs. search needs)
+    (λ c. search needs)
+    (λ c. search needs)
+    (λ c κs. search needs)
+    (λ c. search needs)
+    (λ c. search needs)
+    (λ c. search skim-reading depth 20)
+    (λ c. search skim-reading depth 20)
+    (λ c. search skim-reading depth 20))
