@@ -1,10 +1,12 @@
--- What is proved of the call at any form of table, at this one. Nothing is proved anew: each line cites index's theorem. Assumes nothing.
+-- What is proved of the call at any form of table, at this one: each line cites index's theorem. Assumes nothing.
 use Prim.Native.Nat.{ℕ, _+_, _<_, _≤_}
 use mathlib.Core.Path.{_≡_}
 use mathlib.Core.List.{List, _++_}
 use native.Mathlib.Nat.{one-mul}
+use native.Mathlib.Omega.{arith}
 use lib.ListN.{length, take, drop}
-use Rattle.index.specs.Index.{limit, call}
+use Rattle.walk.specs.Walk.{Ends}
+use Rattle.index.specs.Index.{limit, numberOf, endOf, refused, walkOf, call}
 use Rattle.index.specs.Calls.{over-trace, calls, joined}
 use Rattle.index.specs.declared.State.{State}
 use Rattle.index.specs.declared.End.{End}
@@ -13,7 +15,25 @@ use Rattle.entries.specs.Form.{entryForm}
 use Rattle.entries.specs.declared.Entry.{Entry}
 use Rattle.entries.proofs.Turns.{entry-sound}
 
+-- a walk ends in none of the refusals
+no-refusal : (x : Ends ℕ) → (1 ≤ numberOf (endOf x)) × (numberOf (endOf x) ≤ 6) → ⊥
+no-refusal Ends.Paused r = omega arith
+no-refusal Ends.Full r = omega arith
+no-refusal (Ends.Waits need) r = omega arith
+
 module _ (f : List ℕ) where
+  -- a refusal (1, 5, 6) hands back the state that it was given, and changes no lent entry
+  pub refusals : (s : List ℕ) (st : State) (T : List Entry)
+      → (1 ≤ numberOf (call entryForm f s st T .answer .end)) × (numberOf (call entryForm f s st T .answer .end) ≤ 6)
+      → call entryForm f s st T ≡ refused st T (call entryForm f s st T .answer .end)
+  refusals s st T r = by (any.came entryForm entry-sound f s st T)
+    where
+      by : any.Came entryForm entry-sound f s st T → call entryForm f s st T ≡ refused st T (call entryForm f s st T .answer .end)
+      by (any.no e n q) = rw (q s)
+      by (any.long l q) = rw q
+      by (any.yes filter h l g q) =
+          absurd (no-refusal (walkOf f filter s st (length T) .ends) (rw (q, any.ahead-so entryForm entry-sound f filter s st T) at r))
+
   -- demand 3: two calls, with more bytes for the second; over a trace; and any number of calls
   pub demand-3 : (s t : List ℕ) (st : State) (T : List Entry) → st .at + length (s ++ t) ≤ limit
       → any.next entryForm entry-sound f (s ++ t) st (call entryForm f s st T) ≡ call entryForm f (s ++ t) st T
