@@ -131,7 +131,9 @@ fn show_first(s: &[u8], n: usize) {
 }
 
 // Prints the listing of what `fd` has. Longer input prints one line only; a read that fails prints one line on standard error.
-pub fn list(fd: i32) {
+pub fn list(fd: i32)
+    ensures { λ r. ⌜ r ≡ tt ⌝ }
+{
     let mut buf = io::large_buffer();
     match gather(fd, &mut buf) {
         Input::Bytes(n) => {
