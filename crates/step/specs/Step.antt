@@ -9,6 +9,8 @@ use Rattle.mark.specs.declared.Found.{Found}
 use Rattle.headertype.specs.HeaderType.{overallLength}
 use Rattle.storage.specs.declared.OptStored.{OptStored}
 use Rattle.filter.specs.declared.Filter.{Filter}
+use Rattle.wire.specs.declared.Range.{Range}
+use Rattle.payload.specs.declared.PayloadContent.{PayloadContent}
 use Rattle.parse.specs.Message.{routed, message}
 use Rattle.parse.specs.declared.Headers.{Headers}
 use Rattle.parse.specs.declared.ParsedMessage.{ParsedMessage}
@@ -51,6 +53,19 @@ heard skipped len (need n) = Wait n
 -- the walk asks the message rule of the bytes from the resume position on
 unfoldable pub asked : List ℕ → Filter → List ℕ → Step ℕ ℕ
 asked f filter s = heard (skippedTo (find pattern s 0)) (lengthOf (routed f filter true s 0)) (message f filter true s 0)
+
+-- the same of the payload alone, and of the bytes of a message that the filter drops: all that the code reads of them
+abbrev pub heardPayload : ℕ → ℕ → Ans PayloadContent → Step ℕ ℕ
+heardPayload skipped len (done p n) = Take skipped len itemKind
+heardPayload skipped len (hickup r) = Take skipped 4 hickupKind
+heardPayload skipped len broken = Take skipped 4 unrecoverableKind
+heardPayload skipped len (need n) = Wait n
+
+abbrev pub heardDropped : ℕ → ℕ → Ans Range → Step ℕ ℕ
+heardDropped skipped len (done p n) = Take skipped len filteredKind
+heardDropped skipped len (hickup r) = Take skipped 4 hickupKind
+heardDropped skipped len broken = Take skipped 4 unrecoverableKind
+heardDropped skipped len (need n) = Wait n
 
 -- the bytes skipped, as the storage header has them
 unfoldable pub skippedOf : OptStored → ℕ
