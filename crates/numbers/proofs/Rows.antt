@@ -23,7 +23,8 @@ use Rattle.messageinfo.specs.declared.ExtendedHeader.{ExtendedHeader}
 use Rattle.wire.specs.declared.Range.{Range}
 use Rattle.parse.specs.declared.Message.{Message}
 use Rattle.parse.specs.declared.ParsedMessage.{ParsedMessage}
-use Rattle.numbers.specs.Layout.{oneIf, orderNumber, controlNumber, typeNumber, subtypeNumber, rangeNumbers, numNumbers, storageNumbers, frontNumbers, standardNumbers, extendedNumbers, payloadNumbers, leadNumbers, itemNumbers, messageNumbers, messageLaid}
+use Rattle.messageinfo.specs.Kept.{controlNumber, typeNumber, subtypeNumber}
+use Rattle.numbers.specs.Layout.{oneIf, orderNumber, rangeNumbers, numNumbers, storageNumbers, frontNumbers, standardNumbers, extendedNumbers, payloadNumbers, leadNumbers, itemNumbers, messageNumbers, messageLaid}
 
 module _ (T : List ℕ) (k : ℕ) where
   pub row2 : (a b : ℕ) → k + 2 ≤ length T → set (set T k a) (k + 1) b ≡ over T k (a ∷ b ∷ [])

@@ -11,11 +11,8 @@ use Rattle.headertype.specs.declared.Endianness.{Endianness}
 use Rattle.headertype.specs.declared.OptNum.{OptNum}
 use Rattle.headertype.specs.declared.OptRange.{OptRange}
 use Rattle.headertype.specs.declared.StandardHeader.{StandardHeader}
-use Rattle.messageinfo.specs.declared.LogLevel.{LogLevel}
-use Rattle.messageinfo.specs.declared.ApplicationTraceType.{ApplicationTraceType}
-use Rattle.messageinfo.specs.declared.NetworkTraceType.{NetworkTraceType}
-use Rattle.messageinfo.specs.declared.ControlType.{ControlType}
-use Rattle.messageinfo.specs.declared.MessageType.{MessageType}
+-- the type and the subtype of a message are the numbers that its message info had: messageinfo, specs/Kept.antt
+use Rattle.messageinfo.specs.Kept.{controlNumber, typeNumber, subtypeNumber}
 use Rattle.storage.specs.declared.OptStored.{OptStored}
 use Rattle.filtering.specs.declared.OptExtended.{OptExtended}
 use Rattle.payload.specs.declared.PayloadContent.{PayloadContent}
@@ -30,53 +27,6 @@ oneIf false = 0
 abbrev pub orderNumber : Endianness → ℕ
 orderNumber Endianness.Little = 0
 orderNumber Endianness.Big = 1
-
--- ---- the type and the subtype of a message: bits 1 to 3 and bits 4 to 7 of the message info
-abbrev pub levelNumber : LogLevel → ℕ
-levelNumber LogLevel.Fatal = 1
-levelNumber LogLevel.Error = 2
-levelNumber LogLevel.Warn = 3
-levelNumber LogLevel.Info = 4
-levelNumber LogLevel.Debug = 5
-levelNumber LogLevel.Verbose = 6
-levelNumber (LogLevel.Invalid n) = n
-
-abbrev pub applicationNumber : ApplicationTraceType → ℕ
-applicationNumber ApplicationTraceType.Variable = 1
-applicationNumber ApplicationTraceType.FunctionIn = 2
-applicationNumber ApplicationTraceType.FunctionOut = 3
-applicationNumber ApplicationTraceType.State = 4
-applicationNumber ApplicationTraceType.Vfb = 5
-applicationNumber (ApplicationTraceType.Invalid n) = n
-
-abbrev pub networkNumber : NetworkTraceType → ℕ
-networkNumber NetworkTraceType.Ipc = 1
-networkNumber NetworkTraceType.Can = 2
-networkNumber NetworkTraceType.Flexray = 3
-networkNumber NetworkTraceType.Most = 4
-networkNumber NetworkTraceType.Ethernet = 5
-networkNumber NetworkTraceType.Someip = 6
-networkNumber NetworkTraceType.Invalid = 0
-networkNumber (NetworkTraceType.UserDefined n) = n
-
-abbrev pub controlNumber : ControlType → ℕ
-controlNumber ControlType.Request = 1
-controlNumber ControlType.Response = 2
-controlNumber (ControlType.Unknown n) = n
-
-abbrev pub typeNumber : MessageType → ℕ
-typeNumber (MessageType.Log l) = 0
-typeNumber (MessageType.ApplicationTrace t) = 1
-typeNumber (MessageType.NetworkTrace t) = 2
-typeNumber (MessageType.Control t) = 3
-typeNumber (MessageType.Unknown t n) = t
-
-abbrev pub subtypeNumber : MessageType → ℕ
-subtypeNumber (MessageType.Log l) = levelNumber l
-subtypeNumber (MessageType.ApplicationTrace t) = applicationNumber t
-subtypeNumber (MessageType.NetworkTrace t) = networkNumber t
-subtypeNumber (MessageType.Control t) = controlNumber t
-subtypeNumber (MessageType.Unknown t n) = n
 
 -- ---- present or not, start, length; present or not, the number
 unfoldable pub rangeNumbers : OptRange → List ℕ

@@ -6,7 +6,9 @@ ghost use Prim.Native.Nat.{_+_, _≤_};
 ghost use lib.ListN.{length};
 ghost use lib.Ieee.{binary32, binary64, toBits};
 ghost use Rattle.table.specs.Over.{over};
-ghost use Rattle.numbers.specs.Layout.{oneIf, orderNumber, levelNumber, applicationNumber, networkNumber, controlNumber, typeNumber, subtypeNumber, rangeNumbers, numNumbers, storageNumbers, frontNumbers, standardNumbers, extendedNumbers, payloadNumbers, leadNumbers, itemNumbers, messageNumbers, messageLaid};
+ghost use Rattle.messageinfo.specs.Kept.{applicationNumber, networkNumber, controlNumber, typeNumber, subtypeNumber};
+ghost use Rattle.messageinfo.specs.Level.{number};
+ghost use Rattle.numbers.specs.Layout.{oneIf, orderNumber, rangeNumbers, numNumbers, storageNumbers, frontNumbers, standardNumbers, extendedNumbers, payloadNumbers, leadNumbers, itemNumbers, messageNumbers, messageLaid};
 ghost use Rattle.numbers.specs.Arguments.{signedBits, lengthBits, widthBits, kindNumber, kindBits, codingNumber, valueNumber, valueFirst, valueSecond, offsetWidth, offsetBits, kindNumbers, codingNumbers, pointNumbers, valueNumbers, typeNumbers, nameNumbers, contentNumbers, argumentNumbers, argumentLaid};
 use dlt::Argument;
 use dlt::FixedPointValue;
@@ -132,7 +134,7 @@ fn order(e: Endianness) -> u64
 }
 
 fn level_number(l: LogLevel) -> u64
-    ensures { λ r. ⌜ r ≡ levelNumber l ⌝ }
+    ensures { λ r. ⌜ r ≡ number l ⌝ }
 {
     match l {
         LogLevel::Fatal => 1,
