@@ -1,0 +1,4 @@
+pub mod There
+mod Reading
+pub mod Seen
+pub mod Determined

@@ -1,0 +1,16 @@
+-- `outline::pair_at` meets its contract: `search` goes through the rule as the code does.
+-- Assumes nothing.
+use borrow.Author.Needs.{needs}
+use Rattle.outline.proofs.Reading.{glancing}
+use Rattle.outline.proofs.pair_at.Statement.{statement}
+use Rattle.outline.proofs.pair_at.Tie as tie
+
+pub pair-at-spec : {M : Type 1} → statement M
+pair-at-spec =
+    tie.close
+    (tie.spec
+    (λ c κs. search needs)
+    (λ c. search needs)
+    (λ c. search needs)
+    (λ c. search glancing depth 20)
+    (λ c. search glancing depth 20))
