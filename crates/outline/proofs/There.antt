@@ -41,7 +41,7 @@ module _ (s : List ℕ) (at : ℕ) where
   unfolding number
   number-there big w h = fixed-done w (numberOf big w) s at (omega arith)
 
-  id-there : at + 4 ≤ length s → identified s at ≡ done (textOf 4 s at) (at + 4)
+  pub id-there : at + 4 ≤ length s → identified s at ≡ done (textOf 4 s at) (at + 4)
   unfolding identified text
   id-there h = asking-done 4 (textNeed 4) (λ s at. done (textOf 4 s at) (at + 4)) s at (omega arith)
 
@@ -99,7 +99,7 @@ module _ (s : List ℕ) (at : ℕ) (there : at + 16 ≤ length s) where
 
 -- ---- the extended header
 module _ (s : List ℕ) (at : ℕ) (there : at + 10 ≤ length s) where
-  extended-there : extended s at ≡ done (extendedAt s at) (at + 10)
+  pub extended-there : extended s at ≡ done (extendedAt s at) (at + 10)
   unfolding extended named extendedAt
   extended-there =
       let e : at + 1 + 1 + 4 + 4 ≡ at + 10 = omega arith in
@@ -165,7 +165,7 @@ head s at = standardAt (typeAt s at) (lengthAt s at) s at
 abbrev ext : List ℕ → ℕ → OptExtended
 ext s at = extendedIf (flag 1 (typeAt s at)) s (extendedPlace (typeAt s at) at)
 
-extended-place : (t at : ℕ) → extendedPlace t at ≤ at + 16
+pub extended-place : (t at : ℕ) → extendedPlace t at ≤ at + 16
 extended-place t at =
     let a = behind-most (flag 4 t) (at + 1 + 1 + 2) in
     let b = behind-most (flag 8 t) (sessionPlace t at) in

@@ -2,3 +2,4 @@ pub mod Place
 pub mod Fair
 pub mod Reading
 pub mod Determined
+pub mod Glance

@@ -1,0 +1,366 @@
+-- The lemmas of what the walk hears at a glance, for `search`, and that it is what the message rule says. Assumes nothing.
+use Prim.Native.Nat.{ℕ, zero, suc, _+_, _-_, _*_, _/_, _%_, _≤_, _<_}
+use native.Mathlib.Omega.{arith}
+use mathlib.Core.Path.{_≡_, refl, sym, ap, _∙_}
+use mathlib.Core.Bool.{Bool, true, false, _||_}
+use mathlib.Core.List.{List}
+use lib.ListN.{length, getD}
+use lib.Dec.{leb, eqb}
+use lib.IntN.{ℤ}
+use borrow.Author.Tests.{leb-true, le-leb, lt-leb, eq-eqb, ne-eqb}
+use Rattle.wire.specs.Answer.{Ans}
+use Rattle.wire.specs.Answer.Ans.{done, need, hickup, broken}
+use Rattle.wire.specs.Parser.{pick, follow, ret, here, fail, choose, _>>=_}
+use Rattle.wire.specs.Number.{numberOf, number}
+use Rattle.wire.specs.Run.{range, bytes, rangeAns}
+use Rattle.wire.specs.declared.Range.{Range}
+use Rattle.wire.specs.declared.RangeAns.{RangeAns}
+use Rattle.wire.specs.declared.GotRange.{GotRange}
+use Rattle.wire.proofs.Step.{told, step, then-done, then-hickup, fixed-done, ret-is, here-is, fail-is, choose-true, choose-false}
+use Rattle.strings.specs.Text.{identified, textOf}
+use Rattle.mark.specs.First.{pattern, find}
+use Rattle.mark.specs.declared.Found.{Found}
+use Rattle.headertype.specs.Bits.{flag, both}
+use Rattle.headertype.specs.HeaderType.{allHeaders, overallLength}
+use Rattle.headertype.specs.declared.OptRange.{OptRange}
+use Rattle.headertype.specs.declared.Endianness.{Endianness}
+use Rattle.messageinfo.specs.MessageInfo.{messageTypeBy, controlOf}
+use Rattle.messageinfo.specs.declared.OptLevel.{OptLevel}
+use Rattle.messageinfo.specs.declared.ExtendedHeader.{ExtendedHeader}
+use Rattle.headers.specs.Standard.{endianOf, headerOf}
+use Rattle.headers.specs.Extended.{extendedOf, extended, extendedAns}
+use Rattle.headers.specs.declared.ExtendedAns.{ExtendedAns}
+use Rattle.headers.specs.declared.GotExtended.{GotExtended}
+use Rattle.headers.proofs.Inverse.{same-value, no-need}
+use Rattle.filter.specs.declared.Filter.{Filter}
+use Rattle.filtering.specs.FilteredOut.{filteredOut, dropsExtended, dropsPlain, dropsLevel, dropsId, dropsEcu, shortSet}
+use Rattle.filtering.specs.declared.OptExtended.{OptExtended}
+use Rattle.cursor.specs.Cursor.{arguments, passAns}
+use Rattle.cursor.specs.declared.PassAns.{PassAns}
+use Rattle.payload.specs.Payload.{isVerbose, countOf, isNetwork, isControl, controlType, listOf, verbose, control, plain, payload}
+use Rattle.payload.specs.declared.PayloadContent.{PayloadContent}
+use Rattle.parse.specs.Message.{routed, body, message, isBig, headersOf}
+use Rattle.parse.specs.declared.Headers.{Headers}
+use Rattle.outline.specs.There.{extendedPlace, extendedIf, extendedAt, ecuAt, standardAt, headersAt}
+use Rattle.outline.specs.Outline.{outlineOf}
+use Rattle.outline.specs.declared.Outline.{Outline}
+use Rattle.outline.specs.declared.OutlineAns.{OutlineAns}
+use Rattle.outline.proofs.There.{number-there, id-there, extended-there, headers-end, extended-place, declared-again}
+use Rattle.outline.proofs.Seen.{Seen, Refused, seen-of, refused-of, seen-routed, refused-routed}
+use Rattle.walk.specs.Walk.{Step, Wait, Take}
+use Rattle.step.specs.Step.{heard, heardPayload, heardDropped, skippedTo, lengthOf, asked}
+use Rattle.step.specs.Glance.{heardList, heardRun, heardExtended, heardOutline, noLevel, noSet, letsAllPass, extendedOutlined, ecuOutlined}
+use Rattle.step.proofs.Reading.{item-heard, dropped-heard}
+
+-- ---- the code's cases
+module _ (k l : ℕ) (big : Bool) (n : ℕ) (s : List ℕ) (at : ℕ) (a : PassAns) (d : passAns a ≡ arguments big n s at) where
+  pub list-done : (m : ℕ) → a ≡ PassAns.Done m → Take k l 0 ≡ heardList k l (arguments big n s at)
+  list-done m q = ap (heardList k l) (sym (told passAns d q))
+
+  pub list-need : (m : ℕ) → a ≡ PassAns.Need m → Wait m ≡ heardList k l (arguments big n s at)
+  list-need m q = ap (heardList k l) (sym (told passAns d q))
+
+  pub list-hickup : (m : ℕ) → a ≡ PassAns.Hickup m → Take k 4 2 ≡ heardList k l (arguments big n s at)
+  list-hickup m q = ap (heardList k l) (sym (told passAns d q))
+
+module _ (least n k l : ℕ) where
+  pub run-there : least ≤ n → Take k l 0 ≡ heardRun least n k l
+  unfolding heardRun
+  run-there h = rw (le-leb least n h)
+
+  pub run-short : n < least → Take k 4 3 ≡ heardRun least n k l
+  unfolding heardRun
+  run-short h = rw (lt-leb least n h)
+
+module _ (big : Bool) (n k l : ℕ) (s : List ℕ) (at : ℕ) (x : Step ℕ ℕ) where
+  pub info-verbose : getD s (at - 10) 0 / 1 % 2 ≡ 1 → x ≡ heardList k l (arguments big (getD s (at - 9) 0) s at) → x ≡ heardExtended big n k l s at
+  unfolding heardExtended
+  info-verbose h e = rw (eq-eqb _ _ h) e
+
+  pub info-control : (getD s (at - 10) 0 / 1 % 2 ≡ 1 → ⊥) → getD s (at - 10) 0 / 2 % 8 ≡ 3 → x ≡ heardRun 1 n k l → x ≡ heardExtended big n k l s at
+  unfolding heardExtended
+  info-control h g e = rw (ne-eqb _ _ h, eq-eqb _ _ g) e
+
+  pub info-plain : (getD s (at - 10) 0 / 1 % 2 ≡ 1 → ⊥) → (getD s (at - 10) 0 / 2 % 8 ≡ 3 → ⊥) → x ≡ heardRun 4 n k l → x ≡ heardExtended big n k l s at
+  unfolding heardExtended
+  info-plain h g e = rw (ne-eqb _ _ h, ne-eqb _ _ g) e
+
+-- a is what a call gave for all headers
+module _ (s : List ℕ) (o : Outline) (a : ℕ) (is-all : a ≡ allHeaders (o .«header_type»)) (x : Step ℕ ℕ) where
+  pub outline-extended : o .«header_type» / 1 % 2 ≡ 1 → x ≡ heardExtended (flag 2 (o .«header_type»)) (o .length - a) (o .place) (16 + o .length) s (o .place + 16 + a) → x ≡ heardOutline s o
+  unfolding heardOutline
+  outline-extended h e = rw (eq-eqb _ _ h, ← is-all) e
+
+  pub outline-plain : (o .«header_type» / 1 % 2 ≡ 1 → ⊥) → x ≡ heardRun 4 (o .length - a) (o .place) (16 + o .length) → x ≡ heardOutline s o
+  unfolding heardOutline
+  outline-plain h e = rw (ne-eqb _ _ h, ← is-all) e
+
+-- ---- filters that drop nothing
+module _ (filter : Filter) (a : Bool) (has-a : a ≡ noLevel (filter .«min_log_level»)) where
+  pub pass-level : a ≡ false → false ≡ letsAllPass filter
+  unfolding letsAllPass
+  pass-level h = rw (← has-a, h)
+
+  module _ (h : a ≡ true) (b : Bool) (has-b : b ≡ noSet (filter .«app_ids»)) where
+    pub pass-app : b ≡ false → false ≡ letsAllPass filter
+    unfolding letsAllPass
+    pass-app k = rw (← has-a, h, ← has-b, k)
+
+    module _ (k : b ≡ true) (c : Bool) (has-c : c ≡ noSet (filter .«ecu_ids»)) where
+      pub pass-ecu : c ≡ false → false ≡ letsAllPass filter
+      unfolding letsAllPass
+      pass-ecu m = rw (← has-a, h, ← has-b, k, ← has-c, m)
+
+      pub pass-all : (d : Bool) → c ≡ true → d ≡ noSet (filter .«context_ids») → d ≡ letsAllPass filter
+      unfolding letsAllPass
+      pass-all d m e = rw (← has-a, h, ← has-b, k, ← has-c, m) e
+
+no-truth : {X : Type 0} → false ≡ true → X
+no-truth e = let z : _≡_ {A = ℕ} 0 1 = cc in absurd (omega arith)
+
+module _ (f : List ℕ) (s : List ℕ) (ecu : OptRange) where
+  none-of-ecu : dropsEcu f OptRange.Absent s ecu ≡ false
+  unfolding dropsEcu dropsId
+  none-of-ecu = by ecu
+    where
+      by : (x : OptRange) → dropsEcu f OptRange.Absent s x ≡ false
+      by (OptRange.Present t) = refl
+      by OptRange.Absent = refl
+
+  all-pass-extended : (h : ExtendedHeader) (m : OptLevel) (a u c : OptRange) → both (noLevel m) (both (noSet a) (both (noSet u) (noSet c))) ≡ true
+      → (dropsLevel m (h .«message_type») || (dropsId f a s (h .«application_id») || (dropsId f c s (h .«context_id») || dropsEcu f u s ecu))) ≡ false
+  unfolding dropsLevel dropsId
+  all-pass-extended h OptLevel.Absent OptRange.Absent OptRange.Absent OptRange.Absent e = none-of-ecu
+  all-pass-extended h (OptLevel.Present m) a u c e = no-truth e
+  all-pass-extended h OptLevel.Absent (OptRange.Present a) u c e = no-truth e
+  all-pass-extended h OptLevel.Absent OptRange.Absent (OptRange.Present u) c e = no-truth e
+  all-pass-extended h OptLevel.Absent OptRange.Absent OptRange.Absent (OptRange.Present c) e = no-truth e
+
+  all-pass-plain : (x y : ℤ) (m : OptLevel) (a u c : OptRange) → both (noLevel m) (both (noSet a) (both (noSet u) (noSet c))) ≡ true → (shortSet a x || shortSet c y) ≡ false
+  unfolding shortSet
+  all-pass-plain x y OptLevel.Absent OptRange.Absent OptRange.Absent OptRange.Absent e = refl
+  all-pass-plain x y (OptLevel.Present m) a u c e = no-truth e
+  all-pass-plain x y OptLevel.Absent (OptRange.Present a) u c e = no-truth e
+  all-pass-plain x y OptLevel.Absent OptRange.Absent (OptRange.Present u) c e = no-truth e
+  all-pass-plain x y OptLevel.Absent OptRange.Absent OptRange.Absent (OptRange.Present c) e = no-truth e
+
+  pub all-pass : (filter : Filter) (e : OptExtended) → letsAllPass filter ≡ true → filteredOut f filter s e ecu ≡ false
+  unfolding letsAllPass filteredOut dropsExtended dropsPlain
+  all-pass filter (OptExtended.Present h) e = all-pass-extended h (filter .«min_log_level») (filter .«app_ids») (filter .«ecu_ids») (filter .«context_ids») e
+  all-pass filter OptExtended.Absent e = all-pass-plain (filter .«app_id_count») (filter .«context_id_count») (filter .«min_log_level») (filter .«app_ids») (filter .«ecu_ids») (filter .«context_ids») e
+
+  -- as the code has it: a is the verdict
+  pub passes-all : (filter : Filter) (e : OptExtended) (a : Bool) → a ≡ letsAllPass filter → a ≡ true → false ≡ filteredOut f filter s e ecu
+  passes-all filter e a d h = sym (all-pass filter e (sym d ∙ h))
+
+-- ---- what a filter looks at
+pub verdict-of : (f : List ℕ) (filter : Filter) (s : List ℕ) (e e′ : OptExtended) (u u′ : OptRange) (x : Bool) → e ≡ e′ → u ≡ u′ → x ≡ filteredOut f filter s e u → x ≡ filteredOut f filter s e′ u′
+verdict-of f filter s e e′ u u′ x p q h = rw (← p, ← q) h
+
+module _ (s : List ℕ) (o : Outline) (w : outlineOf s ≡ OutlineAns.Done o) where
+  seen : Seen s o
+  seen = seen-of s (outlineOf s) refl o w
+
+  -- a is what a call gave for all headers
+  pub long-at : (a : ℕ) → a ≡ allHeaders (o .«header_type») → a ≤ o .length
+  long-at a e = rw e (seen .long)
+
+  pub fits-at : (a : ℕ) → a ≡ allHeaders (o .«header_type») → o .place + 16 + a ≤ length s
+  fits-at a e = omega (arith, long-at a e, seen .lies)
+
+  ext-place : (a : ℕ) → a ≡ allHeaders (o .«header_type») → o .«header_type» / 1 % 2 ≡ 1 → o .place + 6 + a ≡ extendedPlace (o .«header_type») (o .place + 16)
+  ext-place a e h =
+      let t = o .«header_type» in
+      let p = extendedPlace t (o .place + 16) in
+      let z : pick (flag 1 t) (p + 10) p ≡ p + 10 = rw (eq-eqb (t / 1 % 2) 1 h) in
+      omega (arith, z, headers-end t (o .place + 16), e)
+
+  ext-there : (a : ℕ) → a ≡ allHeaders (o .«header_type») → o .«header_type» / 1 % 2 ≡ 1
+      → extended s (o .place + 6 + a) ≡ done (extendedAt s (extendedPlace (o .«header_type») (o .place + 16))) (extendedPlace (o .«header_type») (o .place + 16) + 10)
+  ext-there a e h =
+      let t = o .«header_type» in
+      rw (ext-place a e h) (extended-there s (extendedPlace t (o .place + 16)) (omega (arith, extended-place t (o .place + 16), seen .there)))
+
+  pub ext-read : (a : ℕ) (x : ExtendedAns) (g : GotExtended) → a ≡ allHeaders (o .«header_type») → o .«header_type» / 1 % 2 ≡ 1 → extendedAns x ≡ extended s (o .place + 6 + a) → x ≡ ExtendedAns.Done g
+      → OptExtended.Present (g .v) ≡ extendedOutlined s o
+  unfolding extendedOutlined
+  ext-read a x g e h d q = rw (eq-eqb _ _ h, same-value (sym (told extendedAns d q) ∙ ext-there a e h) .0)
+
+  pub ext-missing : (a : ℕ) (x : ExtendedAns) (n : ℕ) → a ≡ allHeaders (o .«header_type») → o .«header_type» / 1 % 2 ≡ 1 → extendedAns x ≡ extended s (o .place + 6 + a) → x ≡ ExtendedAns.Need n
+      → OptExtended.Absent ≡ extendedOutlined s o
+  ext-missing a x n e h d q = no-need (sym (told extendedAns d q) ∙ ext-there a e h)
+
+  pub no-ext : (o .«header_type» / 1 % 2 ≡ 1 → ⊥) → OptExtended.Absent ≡ extendedOutlined s o
+  unfolding extendedOutlined
+  no-ext h = rw (ne-eqb _ _ h)
+
+  ecu-there : identified s (o .place + 20) ≡ done (textOf 4 s (o .place + 16 + 1 + 1 + 2)) (o .place + 20 + 4)
+  ecu-there =
+      let p : o .place + 20 ≡ o .place + 16 + 1 + 1 + 2 = omega arith in
+      id-there s (o .place + 20) (omega (arith, seen .there)) ∙ ap (λ (n : ℕ). done (textOf 4 s n) (o .place + 20 + 4)) p
+
+  pub ecu-read : (x : RangeAns) (g : GotRange) → o .«header_type» / 4 % 2 ≡ 1 → rangeAns x ≡ identified s (o .place + 20) → x ≡ RangeAns.Done g → OptRange.Present (g .v) ≡ ecuOutlined s o
+  unfolding ecuOutlined
+  ecu-read x g h d q = rw (eq-eqb _ _ h, same-value (sym (told rangeAns d q) ∙ ecu-there) .0)
+
+  pub ecu-missing : (x : RangeAns) (n : ℕ) → o .«header_type» / 4 % 2 ≡ 1 → rangeAns x ≡ identified s (o .place + 20) → x ≡ RangeAns.Need n → OptRange.Absent ≡ ecuOutlined s o
+  ecu-missing x n h d q = no-need (sym (told rangeAns d q) ∙ ecu-there)
+
+  pub no-ecu : (o .«header_type» / 4 % 2 ≡ 1 → ⊥) → OptRange.Absent ≡ ecuOutlined s o
+  unfolding ecuOutlined
+  no-ecu h = rw (ne-eqb _ _ h)
+
+  pub ecu-fits : o .place + 20 ≤ length s
+  ecu-fits = omega (arith, seen .there)
+
+-- ---- what is heard at a glance is what the rule says of the payload
+byte-number : (s : List ℕ) (at : ℕ) → numberOf true 1 s at ≡ getD s at 0
+unfolding numberOf
+byte-number s at =
+    let e : at + 0 ≡ at = omega arith in
+    rw e (omega arith)
+
+control-type : (t n : ℕ) → controlType (messageTypeBy t n) ≡ eqb t 3
+unfolding controlType messageTypeBy
+control-type zero n = refl
+control-type (suc zero) n = refl
+control-type (suc (suc zero)) n = refl
+control-type (suc (suc (suc zero))) n = refl
+control-type (suc (suc (suc (suc t)))) n =
+    let m = suc (suc (suc (suc t))) in
+    rw (ne-eqb m 0 (λ e. omega arith), ne-eqb m 1 (λ e. omega arith), ne-eqb m 2 (λ e. omega arith), ne-eqb m 3 (λ e. omega arith))
+
+big-order : (t : ℕ) → isBig (endianOf t) ≡ flag 2 t
+unfolding endianOf isBig
+big-order t = by (flag 2 t)
+  where
+    by : (b : Bool) → isBig (pick b Endianness.Big Endianness.Little) ≡ b
+    by true = refl
+    by false = refl
+
+module _ (k l : ℕ) (s : List ℕ) (at : ℕ) where
+  verbose-heard : (big : Bool) (n : ℕ) (network : Bool) → heardPayload k l (verbose big n network s at) ≡ heardList k l (arguments big n s at)
+  unfolding verbose _>>=_ here ret
+  verbose-heard big n network = by (arguments big n s at)
+    where
+      by : (x : Ans Unit) → heardPayload k l (follow x (λ u s b. done (listOf network at n big) b) s) ≡ heardList k l x
+      by (done u b) = refl
+      by (need m) = refl
+      by (hickup r) = refl
+      by broken = refl
+
+  bytes-there : (p n : ℕ) → p + n ≤ length s → bytes n s p ≡ done (range p n) (p + n)
+  unfolding bytes
+  bytes-there p n h = fixed-done n (λ s at. range at n) s p (omega arith)
+
+  module _ (n : ℕ) (there : at + n ≤ length s) where
+    control-heard : heardPayload k l (control n s at) ≡ heardRun 1 n k l
+    unfolding control heardRun choose fail
+    control-heard = by (leb 1 n) refl
+      where
+        by : (b : Bool) → leb 1 n ≡ b → heardPayload k l (pick b ((number true 1 >>= (λ id. bytes (n - 1) >>= (λ rest. ret (PayloadContent.ControlMsg (controlOf id) rest)))) s at) broken) ≡ pick b (Take k l 0) (Take k 4 3)
+        by true e =
+            let h = leb-true 1 n e in
+            ap (heardPayload k l)
+            (step (number true 1) _ s at (number-there s at true 1 (omega (arith, h)))
+            (step (bytes (n - 1)) _ s (at + 1) (bytes-there (at + 1) (n - 1) (omega (arith, h))) (ret-is _ s _)))
+        by false e = refl
+
+    plain-heard : (big : Bool) → heardPayload k l (plain big n s at) ≡ heardRun 4 n k l
+    unfolding plain heardRun choose fail
+    plain-heard big = by (leb 4 n) refl
+      where
+        by : (b : Bool) → leb 4 n ≡ b → heardPayload k l (pick b ((number big 4 >>= (λ id. bytes (n - 4) >>= (λ rest. ret (PayloadContent.NonVerbose id rest)))) s at) broken) ≡ pick b (Take k l 0) (Take k 4 3)
+        by true e =
+            let h = leb-true 4 n e in
+            ap (heardPayload k l)
+            (step (number big 4) _ s at (number-there s at big 4 (omega (arith, h)))
+            (step (bytes (n - 4)) _ s (at + 4) (bytes-there (at + 4) (n - 4) (omega (arith, h))) (ret-is _ s _)))
+        by false e = refl
+
+    kinds-heard : (big v c network : Bool) (m : ℕ) → heardPayload k l (pick v (verbose big m network s at) (pick c (control n s at) (plain big n s at)))
+        ≡ pick v (heardList k l (arguments big m s at)) (pick c (heardRun 1 n k l) (heardRun 4 n k l))
+    kinds-heard big true c network m = verbose-heard big m network
+    kinds-heard big false true network m = control-heard
+    kinds-heard big false false network m = plain-heard big
+
+    extended-heard : (big : Bool) (p : ℕ) → p + 10 ≡ at → heardPayload k l (payload big (OptExtended.Present (extendedAt s p)) n s at) ≡ heardExtended big n k l s at
+    unfolding payload choose isVerbose isControl countOf extendedAt extendedOf heardExtended
+    extended-heard big p e =
+        let a : at - 10 ≡ p = omega arith in
+        let b : at - 9 ≡ p + 1 = omega arith in
+        rw (a, b, ← byte-number s p, ← byte-number s (p + 1), ← control-type (numberOf true 1 s p / 2 % 8) (numberOf true 1 s p / 16)) (kinds-heard big (flag 1 (numberOf true 1 s p)) (controlType (messageTypeBy (numberOf true 1 s p / 2 % 8) (numberOf true 1 s p / 16))) (isNetwork (OptExtended.Present (extendedAt s p))) (numberOf true 1 s (p + 1)))
+
+    absent-heard : (big : Bool) → heardPayload k l (payload big OptExtended.Absent n s at) ≡ heardRun 4 n k l
+    unfolding payload choose isVerbose isControl
+    absent-heard big = plain-heard big
+
+-- the whole
+module _ (f : List ℕ) (filter : Filter) (s : List ℕ) (o : Outline) (byte : o .«header_type» < 256) (w : outlineOf s ≡ OutlineAns.Done o) where
+  abbrev t : ℕ
+  t = o .«header_type»
+
+  abbrev at : ℕ
+  at = o .place + 16 + allHeaders t
+
+  abbrev h : Headers
+  h = headersAt f filter s (o .place) t (o .length)
+
+  outline-asked : heard (o .place) (16 + o .length) (body h s at) ≡ asked f filter s
+  unfolding asked message headersAt headersOf
+  outline-asked =
+      let v = seen s o w in
+      let r = seen-routed f filter s o byte v in
+      rw (v .found, r, then-done (routed f filter true) body s 0 r, declared-again t (o .length) s (o .place + 16) byte (v .long))
+
+  outlined-heard : heardPayload (o .place) (16 + o .length) (payload (flag 2 t) (extendedOutlined s o) (o .length - allHeaders t) s at) ≡ heardOutline s o
+  unfolding extendedOutlined heardOutline
+  outlined-heard = by (flag 1 t) refl
+    where
+      by : (b : Bool) → flag 1 t ≡ b
+          → heardPayload (o .place) (16 + o .length) (payload (flag 2 t) (extendedIf b s (extendedPlace t (o .place + 16))) (o .length - allHeaders t) s at)
+          ≡ pick b (heardExtended (flag 2 t) (o .length - allHeaders t) (o .place) (16 + o .length) s at) (heardRun 4 (o .length - allHeaders t) (o .place) (16 + o .length))
+      by true e =
+          let v = seen s o w in
+          let z : pick (flag 1 t) (extendedPlace t (o .place + 16) + 10) (extendedPlace t (o .place + 16)) ≡ extendedPlace t (o .place + 16) + 10 = rw e in
+          extended-heard (o .place) (16 + o .length) s at (o .length - allHeaders t) (omega (arith, v .long, v .lies)) (flag 2 t) (extendedPlace t (o .place + 16)) (omega (arith, z, headers-end t (o .place + 16)))
+      by false e =
+          let v = seen s o w in
+          absent-heard (o .place) (16 + o .length) s at (o .length - allHeaders t) (omega (arith, v .long, v .lies)) (flag 2 t)
+
+  drop-there : heardDropped (o .place) (16 + o .length) (bytes (o .length - allHeaders t) s at) ≡ Take (o .place) (16 + o .length) 1
+  drop-there =
+      let v = seen s o w in
+      ap (heardDropped (o .place) (16 + o .length)) (bytes-there (o .place) (16 + o .length) s at at (o .length - allHeaders t) (omega (arith, v .long, v .lies)))
+
+  dropped-at : filteredOut f filter s (extendedOutlined s o) (ecuOutlined s o) ≡ true → Take (o .place) (16 + o .length) 1 ≡ asked f filter s
+  unfolding headersAt headersOf standardAt headerOf extendedOutlined ecuOutlined
+  dropped-at e = sym drop-there ∙ dropped-heard (o .place) (16 + o .length) h s at e ∙ outline-asked
+
+  item-at : filteredOut f filter s (extendedOutlined s o) (ecuOutlined s o) ≡ false → heardOutline s o ≡ asked f filter s
+  unfolding headersAt headersOf standardAt headerOf extendedOutlined ecuOutlined
+  item-at e =
+      sym outlined-heard
+      ∙ ap (λ (b : Bool). heardPayload (o .place) (16 + o .length) (payload b (extendedOutlined s o) (o .length - allHeaders t) s at)) (sym (big-order t))
+      ∙ item-heard (o .place) (16 + o .length) h s at e ∙ outline-asked
+
+-- ---- as the code has it: r is what a glance gave, b the filter's verdict
+pub glanced : (s : List ℕ) (r : OutlineAns) (o : Outline) → r ≡ outlineOf s → r ≡ OutlineAns.Done o → outlineOf s ≡ OutlineAns.Done o
+glanced s r o e q = sym e ∙ q
+
+module _ (f : List ℕ) (filter : Filter) (s : List ℕ) (r : OutlineAns) (e : r ≡ outlineOf s) where
+  module _ (o : Outline) (q : r ≡ OutlineAns.Done o) where
+    module _ (b : Bool) (byte : o .«header_type» < 256) (d : b ≡ filteredOut f filter s (extendedOutlined s o) (ecuOutlined s o)) where
+      pub asked-drop : b ≡ true → Take (o .place) (16 + o .length) 1 ≡ asked f filter s
+      asked-drop z = dropped-at f filter s o byte (glanced s r o e q) (sym d ∙ z)
+
+      pub asked-outline : (x : Step ℕ ℕ) → b ≡ false → x ≡ heardOutline s o → x ≡ asked f filter s
+      asked-outline x z g = g ∙ item-at f filter s o byte (glanced s r o e q) (sym d ∙ z)
+
+  pub asked-refused : (i : ℕ) → r ≡ OutlineAns.Hickup i → Take i 4 2 ≡ asked f filter s
+  unfolding asked message
+  asked-refused i q =
+      let v = refused-of s r e i q in
+      rw (v .found, then-hickup (routed f filter true) body s 0 (refused-routed f filter s i v))
+
+pub ruleset glancing = (list-done, list-need, list-hickup, run-there, run-short, info-verbose, info-control, info-plain, outline-extended, outline-plain, pass-level, pass-app, pass-ecu, pass-all, passes-all, ext-read, ext-missing, no-ext, ecu-read, ecu-missing, no-ecu, verdict-of, glanced, asked-drop, asked-outline, asked-refused)
