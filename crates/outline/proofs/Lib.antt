@@ -1,4 +1,6 @@
 pub mod There
 mod Reading
 pub mod Seen
+pub mod Pass
+mod Straight
 pub mod Determined

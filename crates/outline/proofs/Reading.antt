@@ -65,7 +65,7 @@ module _ (s : List ℕ) (x : Found) (d : x ≡ find pattern s 0) where
     pub glance-at : (t n : ℕ) (r : OutlineAns) → 42 ≤ l → t ≡ numberOf true 1 s (i + 16) → n ≡ numberOf true 2 s (i + 18) → r ≡ tested s i t n → r ≡ outlineOf s
     unfolding outlineOf
     glance-at t n r h e f g =
-        let p : i + 18 ≡ i + 16 + 1 + 1 = omega arith in
+        let p : i + 18 ≡ i + 16 + 2 = omega arith in
         let z : n ≡ lengthAt s (i + 16) = f ∙ ap (numberOf true 2 s) p in
         rw (sym d ∙ q, le-leb 42 (length s - i) (rw (← is-left) h), ← e, ← z) g
 

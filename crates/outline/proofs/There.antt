@@ -67,24 +67,29 @@ behind-most false at = omega arith
 -- ---- the standard header
 module _ (s : List ℕ) (at : ℕ) (there : at + 16 ≤ length s) where
   fields-there : {A : Type 0} (type : ℕ) (k : OptRange → OptNum → OptNum → Parser A)
-      → (maybeId (flag 4 type) >>= (λ ecu. maybeNumber (flag 8 type) >>= (λ session. maybeNumber (flag 16 type) >>= (λ time. k ecu session time)))) s (at + 1 + 1 + 2)
+      → (maybeId (flag 4 type) >>= (λ ecu. maybeNumber (flag 8 type) >>= (λ session. maybeNumber (flag 16 type) >>= (λ time. k ecu session time)))) s (at + 4)
       ≡ k (ecuAt type s at) (sessionAt type s at) (timeAt type s at) s (extendedPlace type at)
   fields-there type k =
-      let b = behind-most (flag 4 type) (at + 1 + 1 + 2) in
+      let b = behind-most (flag 4 type) (at + 4) in
       let c = behind-most (flag 8 type) (sessionPlace type at) in
-      step _ _ s _ (maybe-id s (at + 1 + 1 + 2) (flag 4 type) (omega arith))
+      step _ _ s _ (maybe-id s (at + 4) (flag 4 type) (omega arith))
       (step _ _ s _ (maybe-number s (sessionPlace type at) (flag 8 type) (omega (arith, b)))
       (step _ _ s _ (maybe-number s (timePlace type at) (flag 16 type) (omega (arith, b, c))) refl))
 
+  length-there : {A : Type 0} (k : ℕ → Parser A) → (number true 2 >>= k) s (at + 1 + 1) ≡ k (lengthAt s at) s (at + 4)
+  length-there k =
+      let e : at + 1 + 1 ≡ at + 2 = omega arith in
+      let g : at + 2 + 2 ≡ at + 4 = omega arith in
+      ap (λ (n : ℕ). (number true 2 >>= k) s n) e ∙ step (number true 2) k s (at + 2) (number-there s (at + 2) true 2 (omega arith)) (ap (k (lengthAt s at) s) g)
+
   opened : {A : Type 0} (k : ℕ → ℕ → ℕ → Parser A)
       → (number true 1 >>= (λ type. number true 1 >>= (λ counter. number true 2 >>= (λ length. k type counter length)))) s at
-      ≡ k (typeAt s at) (counterAt s at) (lengthAt s at) s (at + 1 + 1 + 2)
+      ≡ k (typeAt s at) (counterAt s at) (lengthAt s at) s (at + 4)
   opened k =
       step _ _ s _ (number-there s at true 1 (omega arith))
-      (step _ _ s _ (number-there s (at + 1) true 1 (omega arith))
-      (step _ _ s _ (number-there s (at + 1 + 1) true 2 (omega arith)) refl))
+      (step _ _ s _ (number-there s (at + 1) true 1 (omega arith)) (length-there (k (typeAt s at) (counterAt s at))))
 
-  flagged-there : (t n : ℕ) → flagged t (counterAt s at) n s (at + 1 + 1 + 2)
+  flagged-there : (t n : ℕ) → flagged t (counterAt s at) n s (at + 4)
       ≡ choose (leb (allHeaders t) n) (ret (standardAt t n s at)) (refuse 1) s (extendedPlace t at)
   unfolding flagged standardAt
   flagged-there t n = fields-there t (λ ecu session time. choose (leb (allHeaders t) n) (ret (headerOf t (counterAt s at) n ecu session time)) (refuse 1))
@@ -102,11 +107,13 @@ module _ (s : List ℕ) (at : ℕ) (there : at + 10 ≤ length s) where
   pub extended-there : extended s at ≡ done (extendedAt s at) (at + 10)
   unfolding extended named extendedAt
   extended-there =
-      let e : at + 1 + 1 + 4 + 4 ≡ at + 10 = omega arith in
+      let two : at + 1 + 1 ≡ at + 2 = omega arith in
+      let six : at + 2 + 4 ≡ at + 6 = omega arith in
+      let ten : at + 6 + 4 ≡ at + 10 = omega arith in
       step _ _ s _ (number-there s at true 1 (omega arith))
       (step _ _ s _ (number-there s (at + 1) true 1 (omega arith))
-      (step _ _ s _ (id-there s (at + 1 + 1) (omega arith))
-      (step _ _ s _ (id-there s (at + 1 + 1 + 4) (omega arith)) (ret-is _ s _ ∙ ap (λ (n : ℕ). done (extendedAt s at) n) e))))
+      (rw two (step _ _ s _ (id-there s (at + 2) (omega arith))
+      (rw six (step _ _ s _ (id-there s (at + 6) (omega arith)) (ret-is _ s _ ∙ ap (λ (n : ℕ). done (extendedAt s at) n) ten))))))
 
   maybe-extended : (t : Bool) → maybeExtended t s at ≡ done (extendedIf t s at) (pick t (at + 10) at)
   unfolding maybeExtended choose
@@ -152,7 +159,7 @@ ext-end false at = omega arith
 pub headers-end : (t at : ℕ) → pick (flag 1 t) (extendedPlace t at + 10) (extendedPlace t at) ≡ at + allHeaders t
 unfolding allHeaders
 headers-end t at =
-    let a = behind-is (flag 4 t) (at + 1 + 1 + 2) in
+    let a = behind-is (flag 4 t) (at + 4) in
     let b = behind-is (flag 8 t) (sessionPlace t at) in
     let c = behind-is (flag 16 t) (timePlace t at) in
     let d = ext-end (flag 1 t) (extendedPlace t at) in
@@ -167,7 +174,7 @@ ext s at = extendedIf (flag 1 (typeAt s at)) s (extendedPlace (typeAt s at) at)
 
 pub extended-place : (t at : ℕ) → extendedPlace t at ≤ at + 16
 extended-place t at =
-    let a = behind-most (flag 4 t) (at + 1 + 1 + 2) in
+    let a = behind-most (flag 4 t) (at + 4) in
     let b = behind-most (flag 8 t) (sessionPlace t at) in
     let c = behind-most (flag 16 t) (timePlace t at) in
     omega (arith, a, b, c)
@@ -199,11 +206,13 @@ module _ (f : List ℕ) (filter : Filter) (o : OptStored) (s : List ℕ) (at : �
 stored-there : (s : List ℕ) (i : ℕ) → i + 16 ≤ length s → stored i s i ≡ done (storedAt s i) (i + 16)
 unfolding stored owned storedAt bytes
 stored-there s i h =
-    let e : i + 4 + 4 + 4 + 4 ≡ i + 16 = omega arith in
+    let eight : i + 4 + 4 ≡ i + 8 = omega arith in
+    let twelve : i + 8 + 4 ≡ i + 12 = omega arith in
+    let sixteen : i + 12 + 4 ≡ i + 16 = omega arith in
     step _ _ s _ (fixed-done 4 (λ s at. range at 4) s i (omega arith))
     (step _ _ s _ (number-there s (i + 4) false 4 (omega arith))
-    (step _ _ s _ (number-there s (i + 4 + 4) false 4 (omega arith))
-    (step _ _ s _ (id-there s (i + 4 + 4 + 4) (omega arith)) (ret-is _ s _ ∙ ap (λ (n : ℕ). done (storedAt s i) n) e))))
+    (rw eight (step _ _ s _ (number-there s (i + 8) false 4 (omega arith))
+    (rw twelve (step _ _ s _ (id-there s (i + 12) (omega arith)) (ret-is _ s _ ∙ ap (λ (n : ℕ). done (storedAt s i) n) sixteen))))))
 
 -- ---- the whole
 module _ (f : List ℕ) (filter : Filter) (s : List ℕ) (i : ℕ) (found : find pattern s 0 ≡ Found.At i) (there : i + 42 ≤ length s) where

@@ -37,10 +37,10 @@ abbrev pub counterAt : List ℕ → ℕ → ℕ
 counterAt s at = numberOf true 1 s (at + 1)
 
 abbrev pub lengthAt : List ℕ → ℕ → ℕ
-lengthAt s at = numberOf true 2 s (at + 1 + 1)
+lengthAt s at = numberOf true 2 s (at + 2)
 
 abbrev pub sessionPlace : ℕ → ℕ → ℕ
-sessionPlace type at = behind (flag 4 type) (at + 1 + 1 + 2)
+sessionPlace type at = behind (flag 4 type) (at + 4)
 
 abbrev pub timePlace : ℕ → ℕ → ℕ
 timePlace type at = behind (flag 8 type) (sessionPlace type at)
@@ -49,7 +49,7 @@ abbrev pub extendedPlace : ℕ → ℕ → ℕ
 extendedPlace type at = behind (flag 16 type) (timePlace type at)
 
 abbrev pub ecuAt : ℕ → List ℕ → ℕ → OptRange
-ecuAt type s at = idIf (flag 4 type) s (at + 1 + 1 + 2)
+ecuAt type s at = idIf (flag 4 type) s (at + 4)
 
 abbrev pub sessionAt : ℕ → List ℕ → ℕ → OptNum
 sessionAt type s at = numberIf (flag 8 type) s (sessionPlace type at)
@@ -62,14 +62,14 @@ standardAt type length s at = headerOf type (counterAt s at) length (ecuAt type 
 
 -- the extended header at a place, and if flagged
 unfoldable pub extendedAt : List ℕ → ℕ → ExtendedHeader
-extendedAt s at = extendedOf (numberOf true 1 s at) (numberOf true 1 s (at + 1)) (textOf 4 s (at + 1 + 1)) (textOf 4 s (at + 1 + 1 + 4))
+extendedAt s at = extendedOf (numberOf true 1 s at) (numberOf true 1 s (at + 1)) (textOf 4 s (at + 2)) (textOf 4 s (at + 6))
 
 abbrev pub extendedIf : Bool → List ℕ → ℕ → OptExtended
 extendedIf t s at = pick t (OptExtended.Present (extendedAt s at)) OptExtended.Absent
 
 -- the storage header whose pattern stands at a place
 unfoldable pub storedAt : List ℕ → ℕ → OptStored
-storedAt s i = storedOf i (numberOf false 4 s (i + 4)) (numberOf false 4 s (i + 4 + 4)) (textOf 4 s (i + 4 + 4 + 4))
+storedAt s i = storedOf i (numberOf false 4 s (i + 4)) (numberOf false 4 s (i + 8)) (textOf 4 s (i + 12))
 
 -- all of them, behind the pattern at i, by type byte and declared length
 unfoldable pub headersAt : List ℕ → Filter → List ℕ → ℕ → ℕ → ℕ → Headers

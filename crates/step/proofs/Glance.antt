@@ -2,11 +2,10 @@
 use Prim.Native.Nat.{ℕ, zero, suc, _+_, _-_, _*_, _/_, _%_, _≤_, _<_}
 use native.Mathlib.Omega.{arith}
 use mathlib.Core.Path.{_≡_, refl, sym, ap, _∙_}
-use mathlib.Core.Bool.{Bool, true, false, _||_}
+use mathlib.Core.Bool.{Bool, true, false}
 use mathlib.Core.List.{List}
 use lib.ListN.{length, getD}
 use lib.Dec.{leb, eqb}
-use lib.IntN.{ℤ}
 use borrow.Author.Tests.{leb-true, le-leb, lt-leb, eq-eqb, ne-eqb}
 use Rattle.wire.specs.Answer.{Ans}
 use Rattle.wire.specs.Answer.Ans.{done, need, hickup, broken}
@@ -20,20 +19,18 @@ use Rattle.wire.proofs.Step.{told, step, then-done, then-hickup, fixed-done, re
 use Rattle.strings.specs.Text.{identified, textOf}
 use Rattle.mark.specs.First.{pattern, find}
 use Rattle.mark.specs.declared.Found.{Found}
-use Rattle.headertype.specs.Bits.{flag, both}
+use Rattle.headertype.specs.Bits.{flag}
 use Rattle.headertype.specs.HeaderType.{allHeaders, overallLength}
 use Rattle.headertype.specs.declared.OptRange.{OptRange}
 use Rattle.headertype.specs.declared.Endianness.{Endianness}
 use Rattle.messageinfo.specs.MessageInfo.{messageTypeBy, controlOf}
-use Rattle.messageinfo.specs.declared.OptLevel.{OptLevel}
-use Rattle.messageinfo.specs.declared.ExtendedHeader.{ExtendedHeader}
 use Rattle.headers.specs.Standard.{endianOf, headerOf}
 use Rattle.headers.specs.Extended.{extendedOf, extended, extendedAns}
 use Rattle.headers.specs.declared.ExtendedAns.{ExtendedAns}
 use Rattle.headers.specs.declared.GotExtended.{GotExtended}
 use Rattle.headers.proofs.Inverse.{same-value, no-need}
 use Rattle.filter.specs.declared.Filter.{Filter}
-use Rattle.filtering.specs.FilteredOut.{filteredOut, dropsExtended, dropsPlain, dropsLevel, dropsId, dropsEcu, shortSet}
+use Rattle.filtering.specs.FilteredOut.{filteredOut}
 use Rattle.filtering.specs.declared.OptExtended.{OptExtended}
 use Rattle.cursor.specs.Cursor.{arguments, passAns}
 use Rattle.cursor.specs.declared.PassAns.{PassAns}
@@ -46,10 +43,11 @@ use Rattle.outline.specs.Outline.{outlineOf}
 use Rattle.outline.specs.declared.Outline.{Outline}
 use Rattle.outline.specs.declared.OutlineAns.{OutlineAns}
 use Rattle.outline.proofs.There.{number-there, id-there, extended-there, headers-end, extended-place, declared-again}
+use Rattle.outline.proofs.Pass.{passes-all}
 use Rattle.outline.proofs.Seen.{Seen, Refused, seen-of, refused-of, seen-routed, refused-routed}
 use Rattle.walk.specs.Walk.{Step, Wait, Take}
 use Rattle.step.specs.Step.{heard, heardPayload, heardDropped, skippedTo, lengthOf, asked}
-use Rattle.step.specs.Glance.{heardList, heardRun, heardExtended, heardOutline, noLevel, noSet, letsAllPass, extendedOutlined, ecuOutlined}
+use Rattle.step.specs.Glance.{heardList, heardRun, heardExtended, heardOutline, extendedOutlined, ecuOutlined}
 use Rattle.step.proofs.Reading.{item-heard, dropped-heard}
 
 -- ---- the code's cases
@@ -95,64 +93,6 @@ module _ (s : List ℕ) (o : Outline) (a : ℕ) (is-all : a ≡ allHeaders (o .�
   unfolding heardOutline
   outline-plain h e = rw (ne-eqb _ _ h, ← is-all) e
 
--- ---- filters that drop nothing
-module _ (filter : Filter) (a : Bool) (has-a : a ≡ noLevel (filter .«min_log_level»)) where
-  pub pass-level : a ≡ false → false ≡ letsAllPass filter
-  unfolding letsAllPass
-  pass-level h = rw (← has-a, h)
-
-  module _ (h : a ≡ true) (b : Bool) (has-b : b ≡ noSet (filter .«app_ids»)) where
-    pub pass-app : b ≡ false → false ≡ letsAllPass filter
-    unfolding letsAllPass
-    pass-app k = rw (← has-a, h, ← has-b, k)
-
-    module _ (k : b ≡ true) (c : Bool) (has-c : c ≡ noSet (filter .«ecu_ids»)) where
-      pub pass-ecu : c ≡ false → false ≡ letsAllPass filter
-      unfolding letsAllPass
-      pass-ecu m = rw (← has-a, h, ← has-b, k, ← has-c, m)
-
-      pub pass-all : (d : Bool) → c ≡ true → d ≡ noSet (filter .«context_ids») → d ≡ letsAllPass filter
-      unfolding letsAllPass
-      pass-all d m e = rw (← has-a, h, ← has-b, k, ← has-c, m) e
-
-no-truth : {X : Type 0} → false ≡ true → X
-no-truth e = let z : _≡_ {A = ℕ} 0 1 = cc in absurd (omega arith)
-
-module _ (f : List ℕ) (s : List ℕ) (ecu : OptRange) where
-  none-of-ecu : dropsEcu f OptRange.Absent s ecu ≡ false
-  unfolding dropsEcu dropsId
-  none-of-ecu = by ecu
-    where
-      by : (x : OptRange) → dropsEcu f OptRange.Absent s x ≡ false
-      by (OptRange.Present t) = refl
-      by OptRange.Absent = refl
-
-  all-pass-extended : (h : ExtendedHeader) (m : OptLevel) (a u c : OptRange) → both (noLevel m) (both (noSet a) (both (noSet u) (noSet c))) ≡ true
-      → (dropsLevel m (h .«message_type») || (dropsId f a s (h .«application_id») || (dropsId f c s (h .«context_id») || dropsEcu f u s ecu))) ≡ false
-  unfolding dropsLevel dropsId
-  all-pass-extended h OptLevel.Absent OptRange.Absent OptRange.Absent OptRange.Absent e = none-of-ecu
-  all-pass-extended h (OptLevel.Present m) a u c e = no-truth e
-  all-pass-extended h OptLevel.Absent (OptRange.Present a) u c e = no-truth e
-  all-pass-extended h OptLevel.Absent OptRange.Absent (OptRange.Present u) c e = no-truth e
-  all-pass-extended h OptLevel.Absent OptRange.Absent OptRange.Absent (OptRange.Present c) e = no-truth e
-
-  all-pass-plain : (x y : ℤ) (m : OptLevel) (a u c : OptRange) → both (noLevel m) (both (noSet a) (both (noSet u) (noSet c))) ≡ true → (shortSet a x || shortSet c y) ≡ false
-  unfolding shortSet
-  all-pass-plain x y OptLevel.Absent OptRange.Absent OptRange.Absent OptRange.Absent e = refl
-  all-pass-plain x y (OptLevel.Present m) a u c e = no-truth e
-  all-pass-plain x y OptLevel.Absent (OptRange.Present a) u c e = no-truth e
-  all-pass-plain x y OptLevel.Absent OptRange.Absent (OptRange.Present u) c e = no-truth e
-  all-pass-plain x y OptLevel.Absent OptRange.Absent OptRange.Absent (OptRange.Present c) e = no-truth e
-
-  pub all-pass : (filter : Filter) (e : OptExtended) → letsAllPass filter ≡ true → filteredOut f filter s e ecu ≡ false
-  unfolding letsAllPass filteredOut dropsExtended dropsPlain
-  all-pass filter (OptExtended.Present h) e = all-pass-extended h (filter .«min_log_level») (filter .«app_ids») (filter .«ecu_ids») (filter .«context_ids») e
-  all-pass filter OptExtended.Absent e = all-pass-plain (filter .«app_id_count») (filter .«context_id_count») (filter .«min_log_level») (filter .«app_ids») (filter .«ecu_ids») (filter .«context_ids») e
-
-  -- as the code has it: a is the verdict
-  pub passes-all : (filter : Filter) (e : OptExtended) (a : Bool) → a ≡ letsAllPass filter → a ≡ true → false ≡ filteredOut f filter s e ecu
-  passes-all filter e a d h = sym (all-pass filter e (sym d ∙ h))
-
 -- ---- what a filter looks at
 pub verdict-of : (f : List ℕ) (filter : Filter) (s : List ℕ) (e e′ : OptExtended) (u u′ : OptRange) (x : Bool) → e ≡ e′ → u ≡ u′ → x ≡ filteredOut f filter s e u → x ≡ filteredOut f filter s e′ u′
 verdict-of f filter s e e′ u u′ x p q h = rw (← p, ← q) h
@@ -194,9 +134,9 @@ module _ (s : List ℕ) (o : Outline) (w : outlineOf s ≡ OutlineAns.Done o) wh
   unfolding extendedOutlined
   no-ext h = rw (ne-eqb _ _ h)
 
-  ecu-there : identified s (o .place + 20) ≡ done (textOf 4 s (o .place + 16 + 1 + 1 + 2)) (o .place + 20 + 4)
+  ecu-there : identified s (o .place + 20) ≡ done (textOf 4 s (o .place + 16 + 4)) (o .place + 20 + 4)
   ecu-there =
-      let p : o .place + 20 ≡ o .place + 16 + 1 + 1 + 2 = omega arith in
+      let p : o .place + 20 ≡ o .place + 16 + 4 = omega arith in
       id-there s (o .place + 20) (omega (arith, seen .there)) ∙ ap (λ (n : ℕ). done (textOf 4 s n) (o .place + 20 + 4)) p
 
   pub ecu-read : (x : RangeAns) (g : GotRange) → o .«header_type» / 4 % 2 ≡ 1 → rangeAns x ≡ identified s (o .place + 20) → x ≡ RangeAns.Done g → OptRange.Present (g .v) ≡ ecuOutlined s o
@@ -363,4 +303,4 @@ module _ (f : List ℕ) (filter : Filter) (s : List ℕ) (r : OutlineAns) (e : r
       let v = refused-of s r e i q in
       rw (v .found, then-hickup (routed f filter true) body s 0 (refused-routed f filter s i v))
 
-pub ruleset glancing = (list-done, list-need, list-hickup, run-there, run-short, info-verbose, info-control, info-plain, outline-extended, outline-plain, pass-level, pass-app, pass-ecu, pass-all, passes-all, ext-read, ext-missing, no-ext, ecu-read, ecu-missing, no-ecu, verdict-of, glanced, asked-drop, asked-outline, asked-refused)
+pub ruleset glancing = (list-done, list-need, list-hickup, run-there, run-short, info-verbose, info-control, info-plain, outline-extended, outline-plain, passes-all, ext-read, ext-missing, no-ext, ecu-read, ecu-missing, no-ecu, verdict-of, glanced, asked-drop, asked-outline, asked-refused)

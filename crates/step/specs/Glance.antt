@@ -7,11 +7,9 @@ use lib.Dec.{leb, eqb}
 use Rattle.wire.specs.Answer.{Ans}
 use Rattle.wire.specs.Answer.Ans.{done, need, hickup, broken}
 use Rattle.wire.specs.Parser.{pick}
-use Rattle.headertype.specs.Bits.{flag, both}
+use Rattle.headertype.specs.Bits.{flag}
 use Rattle.headertype.specs.HeaderType.{allHeaders}
 use Rattle.headertype.specs.declared.OptRange.{OptRange}
-use Rattle.messageinfo.specs.declared.OptLevel.{OptLevel}
-use Rattle.filter.specs.declared.Filter.{Filter}
 use Rattle.filtering.specs.declared.OptExtended.{OptExtended}
 use Rattle.cursor.specs.Cursor.{arguments}
 use Rattle.outline.specs.There.{extendedPlace, ecuAt, extendedIf}
@@ -41,18 +39,6 @@ heardOutline s o =
     pick (flag 1 (o .«header_type»))
     (heardExtended (flag 2 (o .«header_type»)) (o .length - allHeaders (o .«header_type»)) (o .place) (16 + o .length) s (o .place + 16 + allHeaders (o .«header_type»)))
     (heardRun 4 (o .length - allHeaders (o .«header_type»)) (o .place) (16 + o .length))
-
--- a filter without a level and without a set drops nothing
-abbrev pub noLevel : OptLevel → Bool
-noLevel (OptLevel.Present l) = false
-noLevel OptLevel.Absent = true
-
-abbrev pub noSet : OptRange → Bool
-noSet (OptRange.Present r) = false
-noSet OptRange.Absent = true
-
-unfoldable pub letsAllPass : Filter → Bool
-letsAllPass filter = both (noLevel (filter .«min_log_level»)) (both (noSet (filter .«app_ids»)) (both (noSet (filter .«ecu_ids»)) (noSet (filter .«context_ids»))))
 
 -- what a filter looks at
 unfoldable pub extendedOutlined : List ℕ → Outline → OptExtended

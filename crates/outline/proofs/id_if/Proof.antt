@@ -1,0 +1,14 @@
+-- `outline::id_if` meets its contract: `search` goes through the rule as the code does.
+-- Assumes nothing.
+use borrow.Author.Needs.{needs}
+use Rattle.outline.proofs.Straight.{straight}
+use Rattle.outline.proofs.id_if.Statement.{statement}
+use Rattle.outline.proofs.id_if.Tie as tie
+
+pub id-if-spec : {M : Type 1} → statement M
+id-if-spec =
+    tie.close
+    (tie.spec
+    (λ c κs. search needs)
+    (λ c. search straight depth 20)
+    (λ c. search straight depth 20))
