@@ -23,9 +23,25 @@ use Rattle.signals.specs.declared.SignalTurn.{SignalTurn}
 use Rattle.signals.specs.declared.SignalTurnAns.{SignalTurnAns}
 use Rattle.signals.specs.declared.Constructed.{Constructed}
 use Rattle.signals.specs.declared.ConstructAns.{ConstructAns}
-use Rattle.parse.specs.Message.{messageOf, messageAns}
-use Rattle.parse.specs.declared.MessageAns.{MessageAns}
-use Rattle.parse.specs.declared.GotParsed.{GotParsed}
+use Rattle.wire.specs.Parser.{ret}
+use Rattle.wire.specs.Run.{bytes, rangeAns}
+use Rattle.wire.specs.declared.RangeAns.{RangeAns}
+use Rattle.wire.specs.declared.GotRange.{GotRange}
+use Rattle.wire.proofs.Step as step
+use Rattle.wire.proofs.Step.{then-done, then-need, then-hickup, then-broken, ret-is, choose-true, choose-false}
+use Rattle.headertype.specs.declared.Endianness.{Endianness}
+use Rattle.filter.specs.Filter.{filterOf}
+use Rattle.filter.specs.declared.Filter.{Filter}
+use Rattle.filter.specs.declared.FilterAns.{FilterAns}
+use Rattle.payload.specs.Payload.{payload, payloadAns}
+use Rattle.payload.specs.declared.PayloadAns.{PayloadAns}
+use Rattle.payload.specs.declared.GotPayload.{GotPayload}
+use Rattle.parse.specs.Message as parse
+use Rattle.parse.specs.Message.{isBig, itemOf, passed, item, body, routed, message, judged, messageOf, headersAns}
+use Rattle.parse.specs.declared.Headers.{Headers}
+use Rattle.parse.specs.declared.HeadersAns.{HeadersAns}
+use Rattle.parse.specs.declared.GotHeaders.{GotHeaders}
+use Rattle.parse.specs.declared.ParsedMessage.{ParsedMessage}
 use Rattle.numbers.specs.Layout.{messageLaid}
 use Rattle.numbers.specs.Arguments.{argumentLaid}
 use Rattle.index.specs.Index.{numberOf, needOf, outcome}
@@ -44,31 +60,75 @@ pub message-short : (f : List ℕ) (stored : Bool) (s T : List ℕ) (a : Answer)
 unfolding messageCall
 message-short f stored s T a h e = rw (lt-leb 33 (length T) h, e)
 
-module _ (f : List ℕ) (stored : Bool) (s T X : List ℕ) (r r′ : MessageAns) (a : Answer) where
-  pub message-told : 33 ≤ length T → messageAns r ≡ messageOf f stored s → r ≡ r′ → messageShown T (messageAns r′) ≡ left a X → messageCall f stored s T ≡ left a X
-  unfolding messageCall
-  message-told h d q e = rw (le-leb 33 (length T) h, sym d, q) e
+module _ (f : List ℕ) (stored : Bool) (s T X : List ℕ) (v : FilterAns) (a : Answer) (d : v ≡ filterOf f) (fits : 33 ≤ length T) where
+  pub message-bad : v ≡ FilterAns.Bad → a ≡ numbers 1 0 0 → messageCall f stored s T ≡ left a T
+  unfolding messageCall messageOf judged messageShown
+  message-bad q e = rw (le-leb 33 (length T) fits, sym d ∙ q, e)
 
-module _ (T : List ℕ) (a : Answer) where
-  pub message-bad : a ≡ numbers 1 0 0 → messageShown T (messageAns MessageAns.BadFilter) ≡ left a T
-  unfolding messageShown
-  message-bad e = rw e
+  pub message-good : (filter : Filter) → v ≡ FilterAns.Good filter → messageShown T (parse.Answer.answered (message f filter stored s 0)) ≡ left a X → messageCall f stored s T ≡ left a X
+  unfolding messageCall messageOf judged
+  message-good filter q e = rw (le-leb 33 (length T) fits, sym d ∙ q) e
 
-  pub message-done : (g : GotParsed) (X : List ℕ) → X ≡ messageLaid T (g .v) → a ≡ numbers 0 0 (g .next) → messageShown T (messageAns (MessageAns.Done g)) ≡ left a X
-  unfolding messageShown
-  message-done g X h e = rw (h, e)
+-- a message that the filter drops
+module _ (T X : List ℕ) (a : Answer) (n : ℕ) (s : List ℕ) (at : ℕ) (r : RangeAns) (d : rangeAns r ≡ bytes n s at) where
+  pub dropped-done : (g : GotRange) → r ≡ RangeAns.Done g → X ≡ messageLaid T (ParsedMessage.FilteredOut n) → a ≡ numbers 0 0 (g .next)
+      → messageShown T (parse.Answer.answered (passed n s at)) ≡ left a X
+  unfolding messageShown passed
+  dropped-done g q x e = rw (then-done (bytes n) (λ all. ret (ParsedMessage.FilteredOut n)) s at (step.told rangeAns d q), ret-is (ParsedMessage.FilteredOut n) s (g .next), x, e)
 
-  pub message-need : (n : ℕ) → a ≡ numbers 2 n 0 → messageShown T (messageAns (MessageAns.Need n)) ≡ left a T
-  unfolding messageShown
-  message-need n e = rw e
+  pub dropped-need : (m : ℕ) → r ≡ RangeAns.Need m → a ≡ numbers 2 m 0 → messageShown T (parse.Answer.answered (passed n s at)) ≡ left a T
+  unfolding messageShown passed
+  dropped-need m q e = rw (then-need (bytes n) (λ all. ret (ParsedMessage.FilteredOut n)) s at (step.told rangeAns d q), e)
 
-  pub message-hickup : (n : ℕ) → a ≡ numbers 3 n 0 → messageShown T (messageAns (MessageAns.Hickup n)) ≡ left a T
-  unfolding messageShown
-  message-hickup n e = rw e
+-- one that it lets pass: b is the byte order that a call told
+module _ (T X : List ℕ) (a : Answer) (h : Headers) (b : Bool) (o : b ≡ isBig (h .header .endianness)) (s : List ℕ) (at : ℕ) (r : PayloadAns)
+    (d : payloadAns r ≡ payload b (h .«extended_header») (h .header .«payload_length») s at) where
+  as-told : (r′ : PayloadAns) → r ≡ r′ → payload (isBig (h .header .endianness)) (h .«extended_header») (h .header .«payload_length») s at ≡ payloadAns r′
+  as-told r′ q = rw (← o) (step.told payloadAns d q)
 
-  pub message-broken : a ≡ numbers 4 0 0 → messageShown T (messageAns MessageAns.Broken) ≡ left a T
-  unfolding messageShown
-  message-broken e = rw e
+  pub item-done : (g : GotPayload) → r ≡ PayloadAns.Done g → X ≡ messageLaid T (itemOf h (g .v)) → a ≡ numbers 0 0 (g .next) → messageShown T (parse.Answer.answered (item h s at)) ≡ left a X
+  unfolding messageShown item
+  item-done g q x e = rw (then-done _ (λ p. ret (itemOf h p)) s at (as-told (PayloadAns.Done g) q), ret-is (itemOf h (g .v)) s (g .next), x, e)
+
+  pub item-need : (m : ℕ) → r ≡ PayloadAns.Need m → a ≡ numbers 2 m 0 → messageShown T (parse.Answer.answered (item h s at)) ≡ left a T
+  unfolding messageShown item
+  item-need m q e = rw (then-need _ (λ p. ret (itemOf h p)) s at (as-told (PayloadAns.Need m) q), e)
+
+  pub item-hickup : (m : ℕ) → r ≡ PayloadAns.Hickup m → a ≡ numbers 3 m 0 → messageShown T (parse.Answer.answered (item h s at)) ≡ left a T
+  unfolding messageShown item
+  item-hickup m q e = rw (then-hickup _ (λ p. ret (itemOf h p)) s at (as-told (PayloadAns.Hickup m) q), e)
+
+  pub item-broken : r ≡ PayloadAns.Broken → a ≡ numbers 4 0 0 → messageShown T (parse.Answer.answered (item h s at)) ≡ left a T
+  unfolding messageShown item
+  item-broken q e = rw (then-broken _ (λ p. ret (itemOf h p)) s at (as-told PayloadAns.Broken q), e)
+
+pub order-at : (e e′ : Endianness) (x : Bool) → e ≡ e′ → x ≡ isBig e′ → x ≡ isBig e
+order-at e e′ x q h = rw q h
+
+-- the body, by the filter's verdict
+module _ (T X : List ℕ) (a : Answer) (h : Headers) (s : List ℕ) (at : ℕ) where
+  pub body-dropped : h .filtered ≡ true → messageShown T (parse.Answer.answered (passed (h .header .«payload_length») s at)) ≡ left a X → messageShown T (parse.Answer.answered (body h s at)) ≡ left a X
+  unfolding body
+  body-dropped q e = rw (choose-true (passed (h .header .«payload_length»)) (item h) s at q) e
+
+  pub body-kept : h .filtered ≡ false → messageShown T (parse.Answer.answered (item h s at)) ≡ left a X → messageShown T (parse.Answer.answered (body h s at)) ≡ left a X
+  unfolding body
+  body-kept q e = rw (choose-false (passed (h .header .«payload_length»)) (item h) s at q) e
+
+-- the headers first
+module _ (T X : List ℕ) (a : Answer) (f : List ℕ) (filter : Filter) (stored : Bool) (s : List ℕ) (r : HeadersAns) (d : headersAns r ≡ routed f filter stored s 0) where
+  pub heads-done : (g : GotHeaders) → r ≡ HeadersAns.Done g → messageShown T (parse.Answer.answered (body (g .v) s (g .next))) ≡ left a X
+      → messageShown T (parse.Answer.answered (message f filter stored s 0)) ≡ left a X
+  unfolding message
+  heads-done g q e = rw (then-done (routed f filter stored) body s 0 (step.told headersAns d q)) e
+
+  pub heads-need : (n : ℕ) → r ≡ HeadersAns.Need n → a ≡ numbers 2 n 0 → messageShown T (parse.Answer.answered (message f filter stored s 0)) ≡ left a T
+  unfolding messageShown message
+  heads-need n q e = rw (then-need (routed f filter stored) body s 0 (step.told headersAns d q), e)
+
+  pub heads-hickup : (n : ℕ) → r ≡ HeadersAns.Hickup n → a ≡ numbers 3 n 0 → messageShown T (parse.Answer.answered (message f filter stored s 0)) ≡ left a T
+  unfolding messageShown message
+  heads-hickup n q e = rw (then-hickup (routed f filter stored) body s 0 (step.told headersAns d q), e)
 
 -- ---- dlt_argument and dlt_signal
 module _ (c : Cursor) (s T : List ℕ) (a : Answer) where
@@ -171,4 +231,4 @@ module _ (f s T X : List ℕ) (at used : ℕ) (r : Indexed) (n m : ℕ) where
   unfolding indexCall indexShown
   index-told e p q = rw (e, p, q)
 
-pub ruleset calls = (index-told, message-short, message-told, message-bad, message-done, message-need, message-hickup, message-broken, argument-short, argument-told, turn-at, turn-item, turn-end, turn-need, turn-hickup, signal-short, signal-told, signal-at, signal-item, signal-end, signal-hickup, found-at, found-none, consume-told, consume-need, consume-hickup, count-some, count-none, construct-done, construct-hickup)
+pub ruleset calls = (index-told, message-short, message-bad, message-good, dropped-done, dropped-need, item-done, item-need, item-hickup, item-broken, order-at, body-dropped, body-kept, heads-done, heads-need, heads-hickup, argument-short, argument-told, turn-at, turn-item, turn-end, turn-need, turn-hickup, signal-short, signal-told, signal-at, signal-item, signal-end, signal-hickup, found-at, found-none, consume-told, consume-need, consume-hickup, count-some, count-none, construct-done, construct-hickup)

@@ -21,7 +21,8 @@ use Rattle.cursor.specs.declared.RawCursor.{RawCursor}
 use Rattle.messageinfo.specs.declared.ControlType.{ControlType}
 use Rattle.messageinfo.specs.declared.ExtendedHeader.{ExtendedHeader}
 use Rattle.wire.specs.declared.Range.{Range}
-use Rattle.parse.specs.declared.Message.{Message}
+use Rattle.parse.specs.Message.{itemOf}
+use Rattle.parse.specs.declared.Headers.{Headers}
 use Rattle.parse.specs.declared.ParsedMessage.{ParsedMessage}
 use Rattle.messageinfo.specs.Kept.{controlNumber, typeNumber, subtypeNumber}
 use Rattle.numbers.specs.Layout.{oneIf, orderNumber, rangeNumbers, numNumbers, storageNumbers, frontNumbers, standardNumbers, extendedNumbers, payloadNumbers, leadNumbers, itemNumbers, messageNumbers, messageLaid}
@@ -162,36 +163,35 @@ standard-row T A B C D h fits p q r s =
     )) (omega arith)
 
 -- what the calls of `put_lead` and of `put_item` leave
-pub leads : (m : Message) → length (leadNumbers m) ≡ 19
+pub leads : (o : OptStored) (h : StandardHeader) → length (leadNumbers o h) ≡ 19
 unfolding leadNumbers
-leads m =
-    let a : List ℕ = 0 ∷ m .header .«payload_length» ∷ [] in
-    let b = storageNumbers (m .«storage_header») in
-    omega (arith, length-append a b, length-append (a ++ b) (standardNumbers (m .header)), storages (m .«storage_header»), standards (m .header))
+leads o h =
+    let a : List ℕ = 0 ∷ h .«payload_length» ∷ [] in
+    let b = storageNumbers o in
+    omega (arith, length-append a b, length-append (a ++ b) (standardNumbers h), storages o, standards h)
 
-module _ (T A B C : List ℕ) (m : Message) (fits : 33 ≤ length T) where
-  pub lead-row : A ≡ over T 0 (0 ∷ m .header .«payload_length» ∷ []) → B ≡ over A 2 (storageNumbers (m .«storage_header»)) → C ≡ over B 8 (standardNumbers (m .header))
-      → C ≡ over T 0 (leadNumbers m)
+module _ (T A B C : List ℕ) (fits : 33 ≤ length T) where
+  pub lead-row : (o : OptStored) (h : StandardHeader) → A ≡ over T 0 (0 ∷ h .«payload_length» ∷ []) → B ≡ over A 2 (storageNumbers o) → C ≡ over B 8 (standardNumbers h)
+      → C ≡ over T 0 (leadNumbers o h)
   unfolding leadNumbers
-  lead-row p q r =
-      let a : List ℕ = 0 ∷ m .header .«payload_length» ∷ [] in
-      three-groups T A B C a (storageNumbers (m .«storage_header»)) (standardNumbers (m .header)) 0 2 8 p q r refl
-      (omega (arith, storages (m .«storage_header»))) (omega arith)
+  lead-row o h p q r =
+      let a : List ℕ = 0 ∷ h .«payload_length» ∷ [] in
+      three-groups T A B C a (storageNumbers o) (standardNumbers h) 0 2 8 p q r refl (omega (arith, storages o)) (omega arith)
 
-  pub item-row : A ≡ over T 0 (leadNumbers m) → B ≡ over A 19 (extendedNumbers (m .«extended_header»)) → C ≡ over B 28 (payloadNumbers (m .payload)) → C ≡ over T 0 (itemNumbers m)
-  unfolding itemNumbers
-  item-row p q r =
-      three-groups T A B C (leadNumbers m) (extendedNumbers (m .«extended_header»)) (payloadNumbers (m .payload)) 0 19 28 p q r (omega (arith, leads m))
-      (omega (arith, extendeds (m .«extended_header»))) (omega arith)
+  pub item-row : (h : Headers) (p : PayloadContent) → A ≡ over T 0 (leadNumbers (h .«storage_header») (h .header)) → B ≡ over A 19 (extendedNumbers (h .«extended_header»))
+      → C ≡ over B 28 (payloadNumbers p) → C ≡ messageLaid T (itemOf h p)
+  unfolding messageLaid messageNumbers itemNumbers itemOf
+  item-row h p a b c =
+      rw (le-leb 33 (length T) fits)
+      (three-groups T A B C (leadNumbers (h .«storage_header») (h .header)) (extendedNumbers (h .«extended_header»)) (payloadNumbers p) 0 19 28 a b c
+      (omega (arith, leads (h .«storage_header») (h .header))) (omega (arith, extendeds (h .«extended_header»))) (omega arith))
 
--- ---- the whole, where it fits and where it doesn't
-module _ (T X : List ℕ) (p p′ : ParsedMessage) where
-  pub message-fits : 33 ≤ length T → p ≡ p′ → X ≡ over T 0 (messageNumbers p′) → X ≡ messageLaid T p
-  unfolding messageLaid
-  message-fits h q e = e ∙ rw (le-leb 33 (length T) h, q)
+  pub filtered-row : (n : ℕ) → A ≡ over T 0 (1 ∷ n ∷ []) → A ≡ messageLaid T (ParsedMessage.FilteredOut n)
+  unfolding messageLaid messageNumbers
+  filtered-row n e = rw (le-leb 33 (length T) fits) e
 
 pub message-short : (T : List ℕ) (p : ParsedMessage) → length T < 33 → T ≡ messageLaid T p
 unfolding messageLaid
 message-short T p h = rw (lt-leb 33 (length T) h)
 
-pub ruleset rows = (range-at, num-at, storage-at, extended-at, payload-at, verbose-row, trace-row, control-row, extended-row, front-row, standard-row, lead-row, item-row, message-fits, message-short)
+pub ruleset rows = (range-at, num-at, storage-at, extended-at, payload-at, verbose-row, trace-row, control-row, extended-row, front-row, standard-row, lead-row, item-row, filtered-row, message-short)

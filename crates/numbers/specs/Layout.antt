@@ -74,11 +74,11 @@ payloadNumbers (PayloadContent.ControlMsg t r) = 2 ∷ controlNumber t ∷ r .st
 payloadNumbers (PayloadContent.NetworkTrace c) = 3 ∷ 0 ∷ c .at ∷ c .left ∷ oneIf (c .big) ∷ []
 
 -- ---- an item: 0 and the payload length in front
-unfoldable pub leadNumbers : Message → List ℕ
-leadNumbers m = ((0 ∷ m .header .«payload_length» ∷ []) ++ storageNumbers (m .«storage_header»)) ++ standardNumbers (m .header)
+unfoldable pub leadNumbers : OptStored → StandardHeader → List ℕ
+leadNumbers o h = ((0 ∷ h .«payload_length» ∷ []) ++ storageNumbers o) ++ standardNumbers h
 
 unfoldable pub itemNumbers : Message → List ℕ
-itemNumbers m = (leadNumbers m ++ extendedNumbers (m .«extended_header»)) ++ payloadNumbers (m .payload)
+itemNumbers m = (leadNumbers (m .«storage_header») (m .header) ++ extendedNumbers (m .«extended_header»)) ++ payloadNumbers (m .payload)
 
 -- a message that was filtered out: 1 and the payload length, and no more
 unfoldable pub messageNumbers : ParsedMessage → List ℕ

@@ -8,7 +8,9 @@ ghost use lib.Ieee.{binary32, binary64, toBits};
 ghost use Rattle.table.specs.Over.{over};
 ghost use Rattle.messageinfo.specs.Kept.{applicationNumber, networkNumber, controlNumber, typeNumber, subtypeNumber};
 ghost use Rattle.messageinfo.specs.Level.{number};
-ghost use Rattle.numbers.specs.Layout.{oneIf, orderNumber, rangeNumbers, numNumbers, storageNumbers, frontNumbers, standardNumbers, extendedNumbers, payloadNumbers, leadNumbers, itemNumbers, messageNumbers, messageLaid};
+ghost use Rattle.parse.specs.Message.{itemOf};
+ghost use Rattle.parse.specs.declared.ParsedMessage.{ParsedMessage};
+ghost use Rattle.numbers.specs.Layout.{oneIf, orderNumber, rangeNumbers, numNumbers, storageNumbers, frontNumbers, standardNumbers, extendedNumbers, payloadNumbers, leadNumbers, messageLaid};
 ghost use Rattle.numbers.specs.Arguments.{signedBits, lengthBits, widthBits, kindNumber, kindBits, codingNumber, valueNumber, valueFirst, valueSecond, offsetWidth, offsetBits, kindNumbers, codingNumbers, pointNumbers, valueNumbers, typeNumbers, nameNumbers, contentNumbers, argumentNumbers, argumentLaid};
 use dlt::Argument;
 use dlt::FixedPointValue;
@@ -30,8 +32,7 @@ use messageinfo::ExtendedHeader;
 use messageinfo::LogLevel;
 use messageinfo::MessageType;
 use messageinfo::NetworkTraceType;
-use parse::Message;
-use parse::ParsedMessage;
+use parse::Headers;
 use payload::PayloadContent;
 use reals::Real32;
 use reals::Real64;
@@ -339,38 +340,36 @@ fn put_payload(out: &mut [u64], p: PayloadContent)
     }
 }
 
-// What stands before the extended header's numbers.
-fn put_lead(out: &mut [u64], m: Message)
+// What stands before the extended header's numbers: an item's 0, the payload length, storage and standard header.
+fn put_lead(out: &mut [u64], stored: OptStored, h: StandardHeader)
     requires { ⌜ 33 ≤ length (now out) ⌝ }
-    ensures { λ _. ⌜ now (out .exit) ≡ over (now (out .entry)) 0 (leadNumbers m) ⌝ }
+    ensures { λ _. ⌜ now (out .exit) ≡ over (now (out .entry)) 0 (leadNumbers stored h) ⌝ }
 {
-    let stored = m.storage_header;
-    let header = m.header;
-    put2(out, 0, 0, header.payload_length as u64);
+    put2(out, 0, 0, h.payload_length as u64);
     put_storage(out, stored);
-    put_standard(out, header);
+    put_standard(out, h);
 }
 
-fn put_item(out: &mut [u64], m: Message)
-    requires { ⌜ 33 ≤ length (now out) ⌝ }
-    ensures { λ _. ⌜ now (out .exit) ≡ over (now (out .entry)) 0 (itemNumbers m) ⌝ }
-{
-    let extended = m.extended_header;
-    let content = m.payload;
-    put_lead(out, m);
-    put_extended(out, extended);
-    put_payload(out, content);
-}
-
-// The numbers of what a message was parsed to, from the first place on, if there are places for all of a message.
-pub fn put_message(out: &mut [u64], p: ParsedMessage)
-    ensures { λ _. ⌜ now (out .exit) ≡ messageLaid (now (out .entry)) p ⌝ }
+// An item, of its headers and its payload. A slice that is too short is left as it is.
+pub fn put_item(out: &mut [u64], h: Headers, content: PayloadContent)
+    ensures { λ _. ⌜ now (out .exit) ≡ messageLaid (now (out .entry)) (itemOf h content) ⌝ }
 {
     if 33 <= out.len() {
-        match p {
-            ParsedMessage::Item(m) => put_item(out, m),
-            ParsedMessage::FilteredOut(n) => put2(out, 0, 1, n as u64),
-        }
+        let stored = h.storage_header;
+        let header = h.header;
+        let extended = h.extended_header;
+        put_lead(out, stored, header);
+        put_extended(out, extended);
+        put_payload(out, content);
+    }
+}
+
+// A message that the filter dropped: its payload length alone.
+pub fn put_filtered(out: &mut [u64], n: u16)
+    ensures { λ _. ⌜ now (out .exit) ≡ messageLaid (now (out .entry)) (ParsedMessage.FilteredOut n) ⌝ }
+{
+    if 33 <= out.len() {
+        put2(out, 0, 1, n as u64);
     }
 }
 

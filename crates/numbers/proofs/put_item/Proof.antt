@@ -13,4 +13,5 @@ put-item-spec =
     (λ c κs. search needs)
     (λ c κs. search needs)
     (λ c. search needs)
+    (λ c. search rows depth 20)
     (λ c. search rows depth 20))

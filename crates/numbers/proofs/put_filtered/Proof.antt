@@ -1,0 +1,15 @@
+-- `numbers::put_filtered` meets its contract: `search` goes through the rule as the code does.
+-- Assumes nothing.
+use borrow.Author.Needs.{needs}
+use Rattle.numbers.proofs.Rows.{rows}
+use Rattle.numbers.proofs.put_filtered.Statement.{statement}
+use Rattle.numbers.proofs.put_filtered.Tie as tie
+
+pub put-filtered-spec : {M : Type 1} → statement M
+put-filtered-spec =
+    tie.close
+    (tie.spec
+    (λ c κs. search needs)
+    (λ c. search needs)
+    (λ c. search rows depth 20)
+    (λ c. search rows depth 20))
