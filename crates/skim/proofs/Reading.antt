@@ -1,27 +1,29 @@
 -- The lemmas of the skimming rules, for `search` (wire's Reading.antt says how). Assumes nothing.
-use Prim.Native.Nat.{ℕ, _+_, _-_, _≤_, _<_}
+use Prim.Native.Nat.{ℕ, _+_, _-_, _/_, _%_, _≤_, _<_}
 use mathlib.Core.Path.{_≡_, refl, sym, ap, _∙_}
-use mathlib.Core.Bool.{Bool}
+use mathlib.Core.Bool.{Bool, true, false}
+use mathlib.Core.Logic.{_⊎_, inl, inr}
 use mathlib.Core.List.{List}
 use lib.ListN.{length}
+use lib.Dec.{eqb}
+use borrow.Author.Tests.{eq-eqb, ne-eqb}
 use Rattle.wire.specs.Answer.{Ans, Parser}
 use Rattle.wire.specs.Answer.Ans.{done, need, hickup}
-use Rattle.wire.specs.Parser.{_>>=_}
+use Rattle.wire.specs.Parser.{refuse, choose, _>>=_}
 use Rattle.wire.specs.Run.{rangeAns}
 use Rattle.wire.specs.declared.RangeAns.{RangeAns}
 use Rattle.wire.specs.declared.GotRange.{GotRange}
-use Rattle.wire.proofs.Step.{told, asking-done, fixed-done, fixed-need}
+use Rattle.wire.proofs.Step.{asking-done, fixed-done, fixed-need}
 use Rattle.wire.proofs.Reading.{by-done, by-need, by-hickup}
+use Rattle.wire.specs.Number.{number}
 use Rattle.strings.specs.Text.{text, textNeed}
-use Rattle.dlt.specs.TypeInfoWord.{lengthBytes, floatBytes}
-use Rattle.dlt.specs.declared.FloatWidth.{FloatWidth}
-use Rattle.dlt.specs.declared.TypeLength.{TypeLength}
-use Rattle.dlt.specs.declared.TypeInfoKind.{TypeInfoKind}
+use Rattle.headertype.specs.Bits.{flag, either}
 use Rattle.arguments.specs.Argument.{argument}
-use Rattle.arguments.proofs.Reading.{arguments-reading}
-use Rattle.skim.specs.Skim.{passed, run, skimText, skimPlain, skimScaled, skimKind, skimArgument, skimAns}
+use Rattle.names.proofs.Reading.{names-reading}
+use Rattle.skim.specs.Skim.{passed, run, skimText, skimBool, skimString, skimRaw, bytesOf, skimFloat, skimNumber, skimBits, skimWord, skimAns}
 use Rattle.skim.specs.declared.SkimAns.{SkimAns}
 use Rattle.skim.proofs.Same.{text-skims, skim-same}
+use Rattle.skim.proofs.Words.{word-same}
 
 module _ {B : Type 0} (p : Parser Unit) (k : Unit → Parser B) (s : List ℕ) (at : ℕ) (r : SkimAns) where
   pub stepSkim : (b : ℕ) (x : Ans B) → skimAns r ≡ p s at → r ≡ SkimAns.Done b → x ≡ k tt s b → x ≡ (p >>= k) s at
@@ -55,33 +57,50 @@ module _ (n : ℕ) (s : List ℕ) (at : ℕ) (r : RangeAns) (e : rangeAns r ≡ 
   pub text-lacks : (m : ℕ) → r ≡ RangeAns.Need m → need m ≡ skimText n s at
   text-lacks m q = ap passed (ap rangeAns (sym q) ∙ e) ∙ text-skims n s at
 
--- ---- the variant that was matched; n is the width that a call gave
-module _ (big info : Bool) (k : TypeInfoKind) (s : List ℕ) (at n : ℕ) (x : Ans Unit) where
-  pub kind-at : (k′ : TypeInfoKind) → k ≡ k′ → x ≡ skimKind big info k′ s at → x ≡ skimKind big info k s at
-  kind-at k′ q h = rw q h
+either-one : (a b : Bool) → b ≡ true → either a b ≡ true
+either-one true b e = refl
+either-one false b e = e
 
-  pub kind-signed : (w : TypeLength) → k ≡ TypeInfoKind.Signed w → n ≡ lengthBytes w → x ≡ skimPlain info n big s at → x ≡ skimKind big info k s at
-  unfolding skimKind
-  kind-signed w q e h = rw (q, ← e) h
+-- ---- a number that is one of two, or neither
+pub one-of : (n a b : ℕ) → (n ≡ a) ⊎ (n ≡ b) → either (eqb n a) (eqb n b) ≡ true
+one-of n a b (inl e) = rw (eq-eqb n a e)
+one-of n a b (inr e) = either-one (eqb n a) (eqb n b) (eq-eqb n b e)
 
-  pub kind-unsigned : (w : TypeLength) → k ≡ TypeInfoKind.Unsigned w → n ≡ lengthBytes w → x ≡ skimPlain info n big s at → x ≡ skimKind big info k s at
-  unfolding skimKind
-  kind-unsigned w q e h = rw (q, ← e) h
+pub neither : (n a b : ℕ) → ((n ≡ a) ⊎ (n ≡ b) → ⊥) → either (eqb n a) (eqb n b) ≡ false
+neither n a b f = rw (ne-eqb n a (λ e. f (inl e)), ne-eqb n b (λ e. f (inr e)))
 
-  pub kind-float : (w : FloatWidth) → k ≡ TypeInfoKind.Float w → n ≡ floatBytes w → x ≡ skimPlain info n big s at → x ≡ skimKind big info k s at
-  unfolding skimKind
-  kind-float w q e h = rw (q, ← e) h
+-- ---- a word by the number of bits 4 to 10; n is what a call gave for its length
+module _ (big : Bool) (word : ℕ) (s : List ℕ) (at : ℕ) (x : Ans Unit) where
+  pub word-bool : word / 16 % 128 ≡ 1 → x ≡ skimBool (flag 2048 word) big s at → x ≡ skimWord big word s at
+  unfolding skimWord skimBits choose
+  word-bool e h = rw e h
 
-  pub kind-signed-point : (w : FloatWidth) → k ≡ TypeInfoKind.SignedFixedPoint w → n ≡ floatBytes w → x ≡ skimScaled info n big s at → x ≡ skimKind big info k s at
-  unfolding skimKind
-  kind-signed-point w q e h = rw (q, ← e) h
+  pub word-number : (n : ℕ) → (word / 16 % 128 ≡ 2) ⊎ (word / 16 % 128 ≡ 4) → n ≡ bytesOf (word % 16)
+      → x ≡ skimNumber (flag 2048 word) (flag 4096 word) n big s at → x ≡ skimWord big word s at
+  unfolding skimWord skimBits choose
+  word-number n (inl e) q h = rw (e, ← q) h
+  word-number n (inr e) q h = rw (e, ← q) h
 
-  pub kind-unsigned-point : (w : FloatWidth) → k ≡ TypeInfoKind.UnsignedFixedPoint w → n ≡ floatBytes w → x ≡ skimScaled info n big s at → x ≡ skimKind big info k s at
-  unfolding skimKind
-  kind-unsigned-point w q e h = rw (q, ← e) h
+  pub word-float : (n : ℕ) → word / 16 % 128 ≡ 8 → n ≡ bytesOf (word % 16) → x ≡ skimFloat (flag 2048 word) n big s at → x ≡ skimWord big word s at
+  unfolding skimWord skimBits choose
+  word-float n e q h = rw (e, ← q) h
+
+  pub word-string : word / 16 % 128 ≡ 32 → x ≡ skimString (flag 2048 word) big s at → x ≡ skimWord big word s at
+  unfolding skimWord skimBits choose
+  word-string e h = rw e h
+
+  pub word-raw : word / 16 % 128 ≡ 64 → x ≡ skimRaw (flag 2048 word) big s at → x ≡ skimWord big word s at
+  unfolding skimWord skimBits choose
+  word-raw e h = rw e h
+
+module _ (big : Bool) (word : ℕ) (s : List ℕ) (at : ℕ) where
+  pub word-none : (word / 16 % 128 ≡ 1 → ⊥) → ((word / 16 % 128 ≡ 2) ⊎ (word / 16 % 128 ≡ 4) → ⊥) → (word / 16 % 128 ≡ 8 → ⊥) → (word / 16 % 128 ≡ 32 → ⊥)
+      → (word / 16 % 128 ≡ 64 → ⊥) → hickup 2 ≡ skimWord big word s at
+  unfolding skimWord skimBits choose refuse
+  word-none f g h i j = rw (ne-eqb _ _ f, neither _ _ _ g, ne-eqb _ _ h, ne-eqb _ _ i, ne-eqb _ _ j)
 
 -- ---- the rules of specs/Skim.antt for the argument's own
-pub by-same : (big : Bool) (s : List ℕ) (at : ℕ) (x : Ans Unit) → x ≡ skimArgument big s at → x ≡ passed (argument big s at)
-by-same big s at x e = e ∙ sym (skim-same big s at)
+pub by-word : (big : Bool) (s : List ℕ) (at : ℕ) (x : Ans Unit) → x ≡ (number big 4 >>= (λ w. skimWord big w)) s at → x ≡ passed (argument big s at)
+by-word big s at x e = e ∙ sym (word-same big s at) ∙ sym (skim-same big s at)
 
-pub ruleset skim-reading = (arguments-reading, by-same, stepSkim, needSkim, hickupSkim, run-done, run-need, text-there, text-read, text-lacks, kind-at, kind-signed, kind-unsigned, kind-float, kind-signed-point, kind-unsigned-point)
+pub ruleset skim-reading = (names-reading, by-word, stepSkim, needSkim, hickupSkim, run-done, run-need, text-there, text-read, text-lacks, one-of, neither, eq-eqb, ne-eqb, word-bool, word-number, word-float, word-string, word-raw)

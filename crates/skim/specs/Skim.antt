@@ -1,11 +1,13 @@
 -- One argument passed. These rules are document 01's of an argument with nothing kept: proofs/Same.antt has the theorem, `skim-same`.
-use Prim.Native.Nat.{ℕ, _+_}
+use Prim.Native.Nat.{ℕ, _+_, _/_, _%_}
 use mathlib.Core.Bool.{Bool}
+use lib.Dec.{eqb}
 use Rattle.wire.specs.Answer.{Ans, Parser}
 use Rattle.wire.specs.Answer.Ans.{done, need, hickup, broken}
-use Rattle.wire.specs.Parser.{ret, choose, asking, fixed, _>>=_}
+use Rattle.wire.specs.Parser.{pick, ret, refuse, choose, asking, fixed, _>>=_}
 use Rattle.wire.specs.Number.{number}
 use Rattle.strings.specs.Text.{textNeed}
+use Rattle.headertype.specs.Bits.{flag, either}
 use Rattle.dlt.specs.TypeInfoWord.{lengthBytes, floatBytes}
 use Rattle.dlt.specs.declared.TypeInfoKind.{TypeInfoKind}
 use Rattle.arguments.specs.Argument.{typeInfo}
@@ -90,6 +92,35 @@ unfoldable pub skimArgument : Bool → Parser Unit
 skimArgument big = do
   info ← typeInfo big
   skimKind big (info .«has_variable_info») (info .kind)
+
+-- ---- the same told from the bits of the type info word (proofs/Words.antt has the theorem, `word-same`)
+-- the bytes of a value by the number of its length; 0 where the number is none
+unfoldable pub bytesOf : ℕ → ℕ
+bytesOf n = pick (eqb n 1) 1 (pick (eqb n 2) 2 (pick (eqb n 3) 4 (pick (eqb n 4) 8 (pick (eqb n 5) 16 0))))
+
+-- a number of n bytes: an integer has some, floats and fixed-point numbers have 4 or 8
+unfoldable pub skimWhole : Bool → ℕ → Bool → Parser Unit
+skimWhole info n big = choose (eqb n 0) (refuse 2) (skimPlain info n big)
+
+unfoldable pub skimFloat : Bool → ℕ → Bool → Parser Unit
+skimFloat info n big = choose (either (eqb n 4) (eqb n 8)) (skimPlain info n big) (refuse 2)
+
+unfoldable pub skimFixed : Bool → ℕ → Bool → Parser Unit
+skimFixed info n big = choose (either (eqb n 4) (eqb n 8)) (skimScaled info n big) (refuse 2)
+
+unfoldable pub skimNumber : Bool → Bool → ℕ → Bool → Parser Unit
+skimNumber info fixed n big = choose fixed (skimFixed info n big) (skimWhole info n big)
+
+unfoldable pub skimBits : Bool → Bool → Bool → ℕ → ℕ → Parser Unit
+skimBits big info fixed n bits =
+    choose (eqb bits 1) (skimBool info big)
+    (choose (either (eqb bits 2) (eqb bits 4)) (skimNumber info fixed n big)
+    (choose (eqb bits 8) (skimFloat info n big)
+    (choose (eqb bits 32) (skimString info big)
+    (choose (eqb bits 64) (skimRaw info big) (refuse 2)))))
+
+unfoldable pub skimWord : Bool → ℕ → Parser Unit
+skimWord big word = skimBits big (flag 2048 word) (flag 4096 word) (bytesOf (word % 16)) (word / 16 % 128)
 
 -- the answer that the enum stands for
 abbrev pub skimAns : SkimAns → Ans Unit

@@ -2,11 +2,10 @@
 // bytes are not looked at where all of them are there: only their number matters. `dlt_message` goes by this, and hands out a cursor.
 ghost use mathlib.Core.Path.{_≡_};
 ghost use Rattle.arguments.specs.Argument.{argument};
-ghost use Rattle.skim.specs.Skim.{run, skimText, skimName, skimTexts, skimNames, skimPlain, skimPoint, skimScaled, skimBool, skimString, skimRaw, skimKind, passed, skimAns};
-use arguments::TypeInfoAns;
-use dlt::TypeInfoKind;
+ghost use Rattle.skim.specs.Skim.{run, skimText, skimName, skimTexts, skimNames, skimPlain, skimPoint, skimScaled, skimBool, skimString, skimRaw, bytesOf, skimWhole, skimFloat, skimFixed, skimNumber, skimWord, passed, skimAns};
 use wire::RangeAns;
 use wire::U16Ans;
+use wire::U32Ans;
 
 // Done is where it ends.
 pub enum SkimAns {
@@ -164,31 +163,73 @@ fn skim_raw(s: &[u8], at: usize, info: bool, big: bool) -> SkimAns
     }
 }
 
-// What follows the type info, by its kind.
-fn skim_kind(s: &[u8], at: usize, info: bool, kind: TypeInfoKind, big: bool) -> SkimAns
-    ensures { λ r. ⌜ skimAns r ≡ skimKind big info kind (now (s .entry)) at ⌝ }
+// The bytes of a value by the number of its length; 0 where the number is none.
+fn bytes_of(length: u32) -> usize
+    ensures { λ r. ⌜ r ≡ bytesOf length ⌝ }
 {
-    match kind {
-        TypeInfoKind::Signed(whole) => skim_plain(s, at, info, whole.width_in_bytes(), big),
-        TypeInfoKind::SignedFixedPoint(real) => skim_scaled(
-            s,
-            at,
-            info,
-            real.width_in_bytes(),
-            big,
-        ),
-        TypeInfoKind::Unsigned(natural) => skim_plain(s, at, info, natural.width_in_bytes(), big),
-        TypeInfoKind::UnsignedFixedPoint(point) => skim_scaled(
-            s,
-            at,
-            info,
-            point.width_in_bytes(),
-            big,
-        ),
-        TypeInfoKind::Float(float) => skim_plain(s, at, info, float.width_in_bytes(), big),
-        TypeInfoKind::Raw => skim_raw(s, at, info, big),
-        TypeInfoKind::Bool => skim_bool(s, at, info, big),
-        TypeInfoKind::StringType => skim_string(s, at, info, big),
+    match length {
+        1 => 1,
+        2 => 2,
+        3 => 4,
+        4 => 8,
+        5 => 16,
+        _ => 0,
+    }
+}
+
+// An integer of `n` bytes.
+fn skim_whole(s: &[u8], at: usize, info: bool, n: usize, big: bool) -> SkimAns
+    ensures { λ r. ⌜ skimAns r ≡ skimWhole info n big (now (s .entry)) at ⌝ }
+{
+    match n {
+        0 => SkimAns::Hickup(2),
+        _ => skim_plain(s, at, info, n, big),
+    }
+}
+
+// A float of `n` bytes.
+fn skim_float(s: &[u8], at: usize, info: bool, n: usize, big: bool) -> SkimAns
+    ensures { λ r. ⌜ skimAns r ≡ skimFloat info n big (now (s .entry)) at ⌝ }
+{
+    match n {
+        4 | 8 => skim_plain(s, at, info, n, big),
+        _ => SkimAns::Hickup(2),
+    }
+}
+
+// A fixed-point number of `n` bytes.
+fn skim_fixed(s: &[u8], at: usize, info: bool, n: usize, big: bool) -> SkimAns
+    ensures { λ r. ⌜ skimAns r ≡ skimFixed info n big (now (s .entry)) at ⌝ }
+{
+    match n {
+        4 | 8 => skim_scaled(s, at, info, n, big),
+        _ => SkimAns::Hickup(2),
+    }
+}
+
+// A signed or an unsigned number of `n` bytes: fixed-point, or an integer.
+fn skim_number(s: &[u8], at: usize, info: bool, fixed: bool, n: usize, big: bool) -> SkimAns
+    ensures { λ r. ⌜ skimAns r ≡ skimNumber info fixed n big (now (s .entry)) at ⌝ }
+{
+    if fixed {
+        skim_fixed(s, at, info, n, big)
+    } else {
+        skim_whole(s, at, info, n, big)
+    }
+}
+
+// What follows a type info word: bits 4 to 10 choose the kind, bit 11 is variable info, bit 12 fixed point, bits 0 to 3 are the length.
+fn skim_word(s: &[u8], at: usize, word: u32, big: bool) -> SkimAns
+    ensures { λ r. ⌜ skimAns r ≡ skimWord big word (now (s .entry)) at ⌝ }
+{
+    let info = word / 2048 % 2 == 1;
+    match word / 16 % 128 {
+        1 => skim_bool(s, at, info, big),
+        2 | 4 => skim_number(s, at, info, word / 4096 % 2 == 1, bytes_of(word % 16), big),
+        8 => skim_float(s, at, info, bytes_of(word % 16), big),
+        32 => skim_string(s, at, info, big),
+        64 => skim_raw(s, at, info, big),
+        _ => SkimAns::Hickup(2),
     }
 }
 
@@ -196,12 +237,8 @@ fn skim_kind(s: &[u8], at: usize, info: bool, kind: TypeInfoKind, big: bool) -> 
 pub fn skim_argument(s: &[u8], at: usize, big: bool) -> SkimAns
     ensures { λ r. ⌜ skimAns r ≡ passed (argument big (now (s .entry)) at) ⌝ }
 {
-    let info = match arguments::dlt_type_info(s, at, big) {
-        TypeInfoAns::Done(info) => info,
-        TypeInfoAns::Need(no_info) => return SkimAns::Need(no_info),
-        TypeInfoAns::Hickup(bad_info) => return SkimAns::Hickup(bad_info),
-    };
-    let type_info = info.v;
-    let kind = type_info.kind;
-    skim_kind(s, info.next, type_info.has_variable_info, kind, big)
+    match wire::parse_u32(s, at, big) {
+        U32Ans::Done(word) => skim_word(s, word.next, word.v, big),
+        U32Ans::Need(no_word) => SkimAns::Need(no_word),
+    }
 }

@@ -7,7 +7,7 @@ use mathlib.Core.Bool.{Bool, true, false}
 use mathlib.Core.List.{List, _++_}
 use lib.ListN.{length, getD, List·getD-append}
 use lib.Dec.{leb, ltb, eqb}
-use borrow.Author.Tests.{le-leb, lt-leb, lt-ltb, le-ltb, eq-eqb, ne-eqb}
+use borrow.Author.Tests.{le-leb, lt-leb, lt-ltb, le-ltb, eq-eqb, ne-eqb, leb-true, leb-false}
 use Rattle.wire.specs.Answer.{Ans, Parser}
 use Rattle.wire.specs.Answer.Ans.{done, need}
 use Rattle.wire.specs.Parser.{asking, pick, lacking}
@@ -18,8 +18,8 @@ use Rattle.wire.specs.declared.GotRange.{GotRange}
 use Rattle.wire.proofs.Laws.{sized-law}
 use Rattle.wire.proofs.Step.{asking-done, asking-need}
 use Rattle.strings.specs.Utf8.{validUpTo, least}
-use Rattle.strings.specs.Text.{before0, textNeed, textOf, text, identified}
-use Rattle.strings.proofs.Utf8.{validUpTo-same}
+use Rattle.strings.specs.Text.{before0, Letters, textNeed, textOf, text, identified}
+use Rattle.strings.proofs.Utf8.{validUpTo-same, Valid, valid-none, valid-more, valid-all, one-letter}
 use Rattle.strings.proofs.Longest.{prefix-within}
 
 -- ---- the law
@@ -100,14 +100,59 @@ module _ (s : List ℕ) (at n : ℕ) where
       let z : n - k ≡ 0 = omega arith in
       omega (arith, h .1, ap (λ (i : ℕ). before0 i s (at + k)) z)
 
--- ---- the answers, as the code has them: l is what is left, z what `before_zero` found, and v what `valid_up_to` found
-module _ (n : ℕ) (s : List ℕ) (at l : ℕ) (is-left : l ≡ length s - at) where
-  pub text-done : (z v : ℕ) → z ≡ before0 n s at → v ≡ validUpTo (least z (length s - at)) s at → n ≤ l → done (range at v) (at + n) ≡ text n s at
-  unfolding text textOf
-  text-done z v e f h =
+-- ---- letters: none is zero, and each is a sequence by itself
+module _ (s : List ℕ) (at n : ℕ) where
+  pub letters-more : (k : ℕ) → k < n → (getD s (at + k) 0 ≡ 0 → ⊥) → getD s (at + k) 0 ≤ 0x7F → Letters s at n k → Letters s at n (k + 1)
+  letters-more k l z h p = (omega arith, λ i j. by i j (leb k i) refl)
+    where
+      by : (i : ℕ) → i < k + 1 → (t : Bool) → leb k i ≡ t → (0 < getD s (at + i) 0) × (getD s (at + i) 0 ≤ 0x7F)
+      by i j true e =
+          let q : k ≡ i = omega (arith, leb-true k i e) in
+          rw (← q) (omega (arith, z), h)
+      by i j false e = p .1 i (omega (arith, leb-false k i e))
+
+  fewer-letters : (k : ℕ) → Letters s at n (suc k) → Letters s at n k
+  fewer-letters k p = (omega (arith, p .0), λ i h. p .1 i (omega arith))
+
+  letters-passed : (k : ℕ) → Letters s at n k → Passed s at n k
+  letters-passed zero p = passed-none s at n
+  letters-passed (suc k) p =
+      let b = p .1 k (omega arith) in
+      let q : suc k ≡ k + 1 = omega arith in
+      rw q (passed-more s at n k (omega (arith, p .0)) (λ e. omega (arith, e, b .0)) (letters-passed k (fewer-letters k p)))
+
+  letters-valid : (k : ℕ) → Letters s at n k → Valid s at n k
+  letters-valid zero p = valid-none s at n
+  letters-valid (suc k) p =
+      let b = p .1 k (omega arith) in
+      let q : suc k ≡ k + 1 = omega arith in
+      rw q (valid-more s at n k 1 (omega (arith, p .0)) (one-letter (n - k) s (at + k) (omega (arith, p .0)) (b .1)) (λ e. omega (arith, e)) (letters-valid k (fewer-letters k p)))
+
+module _ (s : List ℕ) (at n : ℕ) where
+  all-valid : (k : ℕ) → Letters s at n k → validUpTo k s at ≡ k
+  all-valid k p = sym (valid-all s at k k k (omega arith) refl (letters-valid s at k k (omega arith, p .1)))
+
+  -- the value's length: all n bytes are letters; or k of them are, and a zero byte stands behind these
+  pub letters-all : (k : ℕ) → k ≡ n → Letters s at n k → n ≡ validUpTo (before0 n s at) s at
+  letters-all k q p =
+      let r : Letters s at n n = rw q at p in
+      rw (← passed-all s at n n (omega arith) (letters-passed s at n n r)) (sym (all-valid n r))
+
+  pub letters-end : (k : ℕ) → (k ≡ n → ⊥) → getD s (at + k) 0 ≡ 0 → Letters s at n k → k ≡ validUpTo (before0 n s at) s at
+  letters-end k z e p =
+      rw (← passed-found s at n k (omega (arith, z, p .0)) e (letters-passed s at n k p)) (sym (all-valid k p))
+
+  -- the general way: z is what `before_zero` found, v what `valid_up_to` found
+  pub content-is : (z v : ℕ) → n ≤ length s - at → z ≡ before0 n s at → v ≡ validUpTo (least z (length s - at)) s at → v ≡ validUpTo (before0 n s at) s at
+  content-is z v h e f =
       let k : z ≤ n = rw e (before0-le n s at) in
-      let g : v ≡ validUpTo (before0 n s at) s at = rw (le-leb z (length s - at) (omega arith), e) at f in
-      sym (asking-done n _ _ s at (omega arith) ∙ ap (λ (k : ℕ). done (range at k) (at + n)) (sym g))
+      rw (le-leb z (length s - at) (omega arith), e) at f
+
+-- ---- the answers, as the code has them: l is what is left, z what `before_zero` found, and v what `content` found
+module _ (n : ℕ) (s : List ℕ) (at l : ℕ) (is-left : l ≡ length s - at) where
+  pub text-done : (v : ℕ) → v ≡ validUpTo (before0 n s at) s at → n ≤ l → done (range at v) (at + n) ≡ text n s at
+  unfolding text textOf
+  text-done v e h = sym (asking-done n _ _ s at (omega arith) ∙ ap (λ (k : ℕ). done (range at k) (at + n)) (sym e))
 
   pub text-more : (z : ℕ) → z ≡ before0 l s at → z < l → l < n → need (n - l) ≡ text n s at
   unfolding text

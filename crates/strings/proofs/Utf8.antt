@@ -105,6 +105,10 @@ module _ (n : ℕ) (s : List ℕ) (at x : ℕ) where
   unfolding sequence
   past-rows h end = above n s at x _ _ (omega arith) (above n s at x _ _ (omega arith) (above n s at x _ _ (omega arith) (above n s at x _ _ (omega arith) (above n s at x _ _ (omega arith) (above n s at x _ _ (omega arith) (above n s at x _ _ (omega arith) (above n s at x _ _ (omega arith) (above n s at x _ _ (omega arith) (none-left n s at x end)))))))))
 
+-- a byte up to 7F is a sequence by itself
+pub one-letter : (n : ℕ) (s : List ℕ) (at : ℕ) → 0 < n → getD s at 0 ≤ 0x7F → 1 ≡ sequence n s at
+one-letter n s at h b = first-row n s at 1 b (all-fit [] n s at h refl)
+
 -- ---- a sequence is no longer than the bytes
 formed-le : (rest : List Span) (n : ℕ) (s : List ℕ) (at : ℕ) → formed rest n s at ≤ n
 unfolding formed

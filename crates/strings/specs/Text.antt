@@ -1,5 +1,5 @@
 -- Strings of a size: document 01, "Strings" and "Needs".
-use Prim.Native.Nat.{ℕ, zero, suc, _+_, _-_}
+use Prim.Native.Nat.{ℕ, zero, suc, _+_, _-_, _≤_, _<_}
 use mathlib.Core.List.{List}
 use lib.ListN.{length, getD}
 use lib.Dec.{ltb, eqb}
@@ -14,6 +14,10 @@ use Rattle.strings.specs.Utf8.{validUpTo}
 abbrev pub before0 : ℕ → List ℕ → ℕ → ℕ
 before0 zero s at = 0
 before0 (suc n) s at = pick (eqb (getD s at 0) 0) 0 (suc (before0 n s (suc at)))
+
+-- k of n bytes, and the first k from a position are letters: from 1 to 7F
+abbrev pub Letters : List ℕ → ℕ → ℕ → ℕ → Type 0
+Letters s at n k = (k ≤ n) × ((i : ℕ) → i < k → (0 < getD s (at + i) 0) × (getD s (at + i) 0 ≤ 0x7F))
 
 -- the value is the content's longest valid UTF-8 prefix
 unfoldable pub textOf : ℕ → List ℕ → ℕ → Range

@@ -7,7 +7,7 @@ ghost use Prim.Native.Nat.{_+_, _-_, _≤_, _<_};
 ghost use lib.ListN.{length, getD};
 ghost use Rattle.wire.specs.Run.{rangeAns};
 ghost use Rattle.strings.specs.Utf8.{span, tail, inside, formed, sequence, least, validUpTo};
-ghost use Rattle.strings.specs.Text.{before0, text, identified};
+ghost use Rattle.strings.specs.Text.{before0, Letters, text, identified};
 use wire::GotRange;
 use wire::Range;
 use wire::RangeAns;
@@ -70,15 +70,12 @@ fn four_bytes(s: &[u8], at: usize, n: usize, low: u8, high: u8) -> usize
     0
 }
 
-// The length of the well-formed sequence at `at` within `n` bytes, 0 where there is none: by the row that the lead byte is in.
-fn sequence_at(s: &[u8], at: usize, n: usize) -> usize
-    requires { ⌜ (0 < n) × (n ≤ length (now s) - at) ⌝ }
+// The same as `sequence_at`, of a lead byte above 7F: by the row that it is in.
+fn longer_at(s: &[u8], at: usize, n: usize) -> usize
+    requires { ⌜ (0 < n) × (n ≤ length (now s) - at) × (0x7F < getD (now s) at 0) ⌝ }
     ensures { λ r. ⌜ r ≡ sequence n (now (s .entry)) at ⌝ }
 {
     let lead = s[at];
-    if lead <= 0x7F {
-        return 1;
-    }
     if lead <= 0xC1 {
         return 0;
     }
@@ -107,6 +104,17 @@ fn sequence_at(s: &[u8], at: usize, n: usize) -> usize
         return four_bytes(s, at, n, 0x80, 0x8F);
     }
     0
+}
+
+// The length of the well-formed sequence at `at` within `n` bytes, 0 where there is none.
+fn sequence_at(s: &[u8], at: usize, n: usize) -> usize
+    requires { ⌜ (0 < n) × (n ≤ length (now s) - at) ⌝ }
+    ensures { λ r. ⌜ r ≡ sequence n (now (s .entry)) at ⌝ }
+{
+    if s[at] <= 0x7F {
+        return 1;
+    }
+    longer_at(s, at, n)
 }
 
 // The lesser of two numbers.
@@ -148,6 +156,40 @@ fn before_zero(s: &[u8], at: usize, n: usize) -> usize
     n
 }
 
+// How many of the `n` bytes at `at` are letters, bytes from 1 to 7F, up to the first that is none.
+fn letters(s: &[u8], at: usize, n: usize) -> usize
+    requires { ⌜ n ≤ length (now s) - at ⌝ }
+    ensures { λ r. ⌜ Letters (now (s .entry)) at n r ⌝ }
+{
+    let mut k: usize = 0;
+    while k < n {
+        if s[at + k] == 0 {
+            return k;
+        }
+        if 0x7F < s[at + k] {
+            return k;
+        }
+        k += 1;
+    }
+    k
+}
+
+// The length of a string's value, where its `n` bytes are there.
+fn content(s: &[u8], at: usize, n: usize) -> usize
+    requires { ⌜ n ≤ length (now s) - at ⌝ }
+    ensures { λ r. ⌜ r ≡ validUpTo (before0 n (now (s .entry)) at) (now (s .entry)) at ⌝ }
+{
+    let plain = letters(s, at, n);
+    if plain == n {
+        return n;
+    }
+    if s[at + plain] == 0 {
+        return plain;
+    }
+    let before = before_zero(s, at, n);
+    valid_up_to(s, at, before)
+}
+
 // A string of a size at a position: the longest valid UTF-8 prefix of what stands before its first zero byte.
 pub fn dlt_zero_terminated_string_intern(s: &[u8], at: usize, size: usize) -> RangeAns
     ensures { λ r. ⌜ rangeAns r ≡ text size (now (s .entry)) at ⌝ }
@@ -159,11 +201,10 @@ pub fn dlt_zero_terminated_string_intern(s: &[u8], at: usize, size: usize) -> Ra
         }
         return RangeAns::Need(1);
     }
-    let content = before_zero(s, at, size);
     RangeAns::Done(GotRange {
         v: Range {
             start: at,
-            len: valid_up_to(s, at, content),
+            len: content(s, at, size),
         },
         next: at + size,
     })
@@ -176,9 +217,27 @@ pub fn dlt_zero_terminated_string(s: &[u8], size: usize) -> RangeAns
     dlt_zero_terminated_string_intern(s, 0, size)
 }
 
-// An identifier: a string of size 4.
+// An identifier: a string of size 4. Most are letters up to a zero byte or the end.
 pub fn identifier(s: &[u8], at: usize) -> RangeAns
     ensures { λ r. ⌜ rangeAns r ≡ identified (now (s .entry)) at ⌝ }
 {
+    if 4 <= wire::left(s, at) {
+        let plain = letters(s, at, 4);
+        if plain == 4 {
+            return RangeAns::Done(GotRange {
+                v: Range { start: at, len: 4 },
+                next: at + 4,
+            });
+        }
+        if s[at + plain] == 0 {
+            return RangeAns::Done(GotRange {
+                v: Range {
+                    start: at,
+                    len: plain,
+                },
+                next: at + 4,
+            });
+        }
+    }
     dlt_zero_terminated_string_intern(s, at, 4)
 }

@@ -15,6 +15,5 @@ dlt-zero-terminated-string-intern-spec =
     (λ c. search texts depth 20)
     (λ c. search texts depth 20)
     (λ c κs. search needs)
-    (λ c κs. search needs)
     (λ c. search needs)
     (λ c. search texts depth 20))
