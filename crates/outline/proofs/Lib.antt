@@ -3,4 +3,3 @@ mod Reading
 pub mod Seen
 pub mod Pass
 mod Straight
-pub mod Determined

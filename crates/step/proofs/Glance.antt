@@ -30,7 +30,6 @@ use Rattle.headers.specs.declared.ExtendedAns.{ExtendedAns}
 use Rattle.headers.specs.declared.GotExtended.{GotExtended}
 use Rattle.headers.proofs.Inverse.{same-value, no-need}
 use Rattle.filter.specs.declared.Filter.{Filter}
-use Rattle.filtering.specs.FilteredOut.{filteredOut}
 use Rattle.filtering.specs.declared.OptExtended.{OptExtended}
 use Rattle.cursor.specs.Cursor.{arguments, passAns}
 use Rattle.cursor.specs.declared.PassAns.{PassAns}
@@ -40,14 +39,15 @@ use Rattle.parse.specs.Message.{routed, body, message, isBig, headersOf}
 use Rattle.parse.specs.declared.Headers.{Headers}
 use Rattle.outline.specs.There.{extendedPlace, extendedIf, extendedAt, ecuAt, standardAt, headersAt}
 use Rattle.outline.specs.Outline.{outlineOf}
+use Rattle.outline.specs.Pass.{letsAllPass}
 use Rattle.outline.specs.declared.Outline.{Outline}
 use Rattle.outline.specs.declared.OutlineAns.{OutlineAns}
 use Rattle.outline.proofs.There.{number-there, id-there, extended-there, headers-end, extended-place, declared-again}
-use Rattle.outline.proofs.Pass.{passes-all}
+use Rattle.outline.proofs.Pass.{all-pass}
 use Rattle.outline.proofs.Seen.{Seen, Refused, seen-of, refused-of, seen-routed, refused-routed}
 use Rattle.walk.specs.Walk.{Step, Wait, Take}
 use Rattle.step.specs.Step.{heard, heardPayload, heardDropped, skippedTo, lengthOf, asked}
-use Rattle.step.specs.Glance.{heardList, heardRun, heardExtended, heardOutline, extendedOutlined, ecuOutlined}
+use Rattle.step.specs.Glance.{heardList, heardRun, heardExtended, heardOutline}
 use Rattle.step.proofs.Reading.{item-heard, dropped-heard}
 
 -- ---- the code's cases
@@ -93,65 +93,16 @@ module _ (s : List ℕ) (o : Outline) (a : ℕ) (is-all : a ≡ allHeaders (o .�
   unfolding heardOutline
   outline-plain h e = rw (ne-eqb _ _ h, ← is-all) e
 
--- ---- what a filter looks at
-pub verdict-of : (f : List ℕ) (filter : Filter) (s : List ℕ) (e e′ : OptExtended) (u u′ : OptRange) (x : Bool) → e ≡ e′ → u ≡ u′ → x ≡ filteredOut f filter s e u → x ≡ filteredOut f filter s e′ u′
-verdict-of f filter s e e′ u u′ x p q h = rw (← p, ← q) h
-
+-- ---- the sizes that the code adds: a is what a call gave for all headers
 module _ (s : List ℕ) (o : Outline) (w : outlineOf s ≡ OutlineAns.Done o) where
   seen : Seen s o
   seen = seen-of s (outlineOf s) refl o w
 
-  -- a is what a call gave for all headers
   pub long-at : (a : ℕ) → a ≡ allHeaders (o .«header_type») → a ≤ o .length
   long-at a e = rw e (seen .long)
 
   pub fits-at : (a : ℕ) → a ≡ allHeaders (o .«header_type») → o .place + 16 + a ≤ length s
   fits-at a e = omega (arith, long-at a e, seen .lies)
-
-  ext-place : (a : ℕ) → a ≡ allHeaders (o .«header_type») → o .«header_type» / 1 % 2 ≡ 1 → o .place + 6 + a ≡ extendedPlace (o .«header_type») (o .place + 16)
-  ext-place a e h =
-      let t = o .«header_type» in
-      let p = extendedPlace t (o .place + 16) in
-      let z : pick (flag 1 t) (p + 10) p ≡ p + 10 = rw (eq-eqb (t / 1 % 2) 1 h) in
-      omega (arith, z, headers-end t (o .place + 16), e)
-
-  ext-there : (a : ℕ) → a ≡ allHeaders (o .«header_type») → o .«header_type» / 1 % 2 ≡ 1
-      → extended s (o .place + 6 + a) ≡ done (extendedAt s (extendedPlace (o .«header_type») (o .place + 16))) (extendedPlace (o .«header_type») (o .place + 16) + 10)
-  ext-there a e h =
-      let t = o .«header_type» in
-      rw (ext-place a e h) (extended-there s (extendedPlace t (o .place + 16)) (omega (arith, extended-place t (o .place + 16), seen .there)))
-
-  pub ext-read : (a : ℕ) (x : ExtendedAns) (g : GotExtended) → a ≡ allHeaders (o .«header_type») → o .«header_type» / 1 % 2 ≡ 1 → extendedAns x ≡ extended s (o .place + 6 + a) → x ≡ ExtendedAns.Done g
-      → OptExtended.Present (g .v) ≡ extendedOutlined s o
-  unfolding extendedOutlined
-  ext-read a x g e h d q = rw (eq-eqb _ _ h, same-value (sym (told extendedAns d q) ∙ ext-there a e h) .0)
-
-  pub ext-missing : (a : ℕ) (x : ExtendedAns) (n : ℕ) → a ≡ allHeaders (o .«header_type») → o .«header_type» / 1 % 2 ≡ 1 → extendedAns x ≡ extended s (o .place + 6 + a) → x ≡ ExtendedAns.Need n
-      → OptExtended.Absent ≡ extendedOutlined s o
-  ext-missing a x n e h d q = no-need (sym (told extendedAns d q) ∙ ext-there a e h)
-
-  pub no-ext : (o .«header_type» / 1 % 2 ≡ 1 → ⊥) → OptExtended.Absent ≡ extendedOutlined s o
-  unfolding extendedOutlined
-  no-ext h = rw (ne-eqb _ _ h)
-
-  ecu-there : identified s (o .place + 20) ≡ done (textOf 4 s (o .place + 16 + 4)) (o .place + 20 + 4)
-  ecu-there =
-      let p : o .place + 20 ≡ o .place + 16 + 4 = omega arith in
-      id-there s (o .place + 20) (omega (arith, seen .there)) ∙ ap (λ (n : ℕ). done (textOf 4 s n) (o .place + 20 + 4)) p
-
-  pub ecu-read : (x : RangeAns) (g : GotRange) → o .«header_type» / 4 % 2 ≡ 1 → rangeAns x ≡ identified s (o .place + 20) → x ≡ RangeAns.Done g → OptRange.Present (g .v) ≡ ecuOutlined s o
-  unfolding ecuOutlined
-  ecu-read x g h d q = rw (eq-eqb _ _ h, same-value (sym (told rangeAns d q) ∙ ecu-there) .0)
-
-  pub ecu-missing : (x : RangeAns) (n : ℕ) → o .«header_type» / 4 % 2 ≡ 1 → rangeAns x ≡ identified s (o .place + 20) → x ≡ RangeAns.Need n → OptRange.Absent ≡ ecuOutlined s o
-  ecu-missing x n h d q = no-need (sym (told rangeAns d q) ∙ ecu-there)
-
-  pub no-ecu : (o .«header_type» / 4 % 2 ≡ 1 → ⊥) → OptRange.Absent ≡ ecuOutlined s o
-  unfolding ecuOutlined
-  no-ecu h = rw (ne-eqb _ _ h)
-
-  pub ecu-fits : o .place + 20 ≤ length s
-  ecu-fits = omega (arith, seen .there)
 
 -- ---- what is heard at a glance is what the rule says of the payload
 byte-number : (s : List ℕ) (at : ℕ) → numberOf true 1 s at ≡ getD s at 0
@@ -246,6 +197,9 @@ module _ (f : List ℕ) (filter : Filter) (s : List ℕ) (o : Outline) (byte : o
   abbrev h : Headers
   h = headersAt f filter s (o .place) t (o .length)
 
+  abbrev extendedOutlined : OptExtended
+  extendedOutlined = extendedIf (flag 1 t) s (extendedPlace t (o .place + 16))
+
   outline-asked : heard (o .place) (16 + o .length) (body h s at) ≡ asked f filter s
   unfolding asked message headersAt headersOf
   outline-asked =
@@ -253,8 +207,8 @@ module _ (f : List ℕ) (filter : Filter) (s : List ℕ) (o : Outline) (byte : o
       let r = seen-routed f filter s o byte v in
       rw (v .found, r, then-done (routed f filter true) body s 0 r, declared-again t (o .length) s (o .place + 16) byte (v .long))
 
-  outlined-heard : heardPayload (o .place) (16 + o .length) (payload (flag 2 t) (extendedOutlined s o) (o .length - allHeaders t) s at) ≡ heardOutline s o
-  unfolding extendedOutlined heardOutline
+  outlined-heard : heardPayload (o .place) (16 + o .length) (payload (flag 2 t) extendedOutlined (o .length - allHeaders t) s at) ≡ heardOutline s o
+  unfolding heardOutline
   outlined-heard = by (flag 1 t) refl
     where
       by : (b : Bool) → flag 1 t ≡ b
@@ -268,34 +222,20 @@ module _ (f : List ℕ) (filter : Filter) (s : List ℕ) (o : Outline) (byte : o
           let v = seen s o w in
           absent-heard (o .place) (16 + o .length) s at (o .length - allHeaders t) (omega (arith, v .long, v .lies)) (flag 2 t)
 
-  drop-there : heardDropped (o .place) (16 + o .length) (bytes (o .length - allHeaders t) s at) ≡ Take (o .place) (16 + o .length) 1
-  drop-there =
-      let v = seen s o w in
-      ap (heardDropped (o .place) (16 + o .length)) (bytes-there (o .place) (16 + o .length) s at at (o .length - allHeaders t) (omega (arith, v .long, v .lies)))
-
-  dropped-at : filteredOut f filter s (extendedOutlined s o) (ecuOutlined s o) ≡ true → Take (o .place) (16 + o .length) 1 ≡ asked f filter s
-  unfolding headersAt headersOf standardAt headerOf extendedOutlined ecuOutlined
-  dropped-at e = sym drop-there ∙ dropped-heard (o .place) (16 + o .length) h s at e ∙ outline-asked
-
-  item-at : filteredOut f filter s (extendedOutlined s o) (ecuOutlined s o) ≡ false → heardOutline s o ≡ asked f filter s
-  unfolding headersAt headersOf standardAt headerOf extendedOutlined ecuOutlined
+  item-at : letsAllPass filter ≡ true → heardOutline s o ≡ asked f filter s
+  unfolding headersAt headersOf standardAt headerOf
   item-at e =
       sym outlined-heard
-      ∙ ap (λ (b : Bool). heardPayload (o .place) (16 + o .length) (payload b (extendedOutlined s o) (o .length - allHeaders t) s at)) (sym (big-order t))
-      ∙ item-heard (o .place) (16 + o .length) h s at e ∙ outline-asked
+      ∙ ap (λ (b : Bool). heardPayload (o .place) (16 + o .length) (payload b extendedOutlined (o .length - allHeaders t) s at)) (sym (big-order t))
+      ∙ item-heard (o .place) (16 + o .length) h s at (all-pass f s _ filter _ e) ∙ outline-asked
 
--- ---- as the code has it: r is what a glance gave, b the filter's verdict
+-- ---- as the code has it: r is what a glance gave, b that the filter lets all pass
 pub glanced : (s : List ℕ) (r : OutlineAns) (o : Outline) → r ≡ outlineOf s → r ≡ OutlineAns.Done o → outlineOf s ≡ OutlineAns.Done o
 glanced s r o e q = sym e ∙ q
 
 module _ (f : List ℕ) (filter : Filter) (s : List ℕ) (r : OutlineAns) (e : r ≡ outlineOf s) where
-  module _ (o : Outline) (q : r ≡ OutlineAns.Done o) where
-    module _ (b : Bool) (byte : o .«header_type» < 256) (d : b ≡ filteredOut f filter s (extendedOutlined s o) (ecuOutlined s o)) where
-      pub asked-drop : b ≡ true → Take (o .place) (16 + o .length) 1 ≡ asked f filter s
-      asked-drop z = dropped-at f filter s o byte (glanced s r o e q) (sym d ∙ z)
-
-      pub asked-outline : (x : Step ℕ ℕ) → b ≡ false → x ≡ heardOutline s o → x ≡ asked f filter s
-      asked-outline x z g = g ∙ item-at f filter s o byte (glanced s r o e q) (sym d ∙ z)
+  pub asked-outline : (o : Outline) (b : Bool) (x : Step ℕ ℕ) → r ≡ OutlineAns.Done o → o .«header_type» < 256 → b ≡ letsAllPass filter → b ≡ true → x ≡ heardOutline s o → x ≡ asked f filter s
+  asked-outline o b x q byte d z g = g ∙ item-at f filter s o byte (glanced s r o e q) (sym d ∙ z)
 
   pub asked-refused : (i : ℕ) → r ≡ OutlineAns.Hickup i → Take i 4 2 ≡ asked f filter s
   unfolding asked message
@@ -303,4 +243,4 @@ module _ (f : List ℕ) (filter : Filter) (s : List ℕ) (r : OutlineAns) (e : r
       let v = refused-of s r e i q in
       rw (v .found, then-hickup (routed f filter true) body s 0 (refused-routed f filter s i v))
 
-pub ruleset glancing = (list-done, list-need, list-hickup, run-there, run-short, info-verbose, info-control, info-plain, outline-extended, outline-plain, passes-all, ext-read, ext-missing, no-ext, ecu-read, ecu-missing, no-ecu, verdict-of, glanced, asked-drop, asked-outline, asked-refused)
+pub ruleset glancing = (list-done, list-need, list-hickup, run-there, run-short, info-verbose, info-control, info-plain, outline-extended, outline-plain, glanced, asked-outline, asked-refused)

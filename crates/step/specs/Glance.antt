@@ -9,10 +9,7 @@ use Rattle.wire.specs.Answer.Ans.{done, need, hickup, broken}
 use Rattle.wire.specs.Parser.{pick}
 use Rattle.headertype.specs.Bits.{flag}
 use Rattle.headertype.specs.HeaderType.{allHeaders}
-use Rattle.headertype.specs.declared.OptRange.{OptRange}
-use Rattle.filtering.specs.declared.OptExtended.{OptExtended}
 use Rattle.cursor.specs.Cursor.{arguments}
-use Rattle.outline.specs.There.{extendedPlace, ecuAt, extendedIf}
 use Rattle.outline.specs.declared.Outline.{Outline}
 use Rattle.walk.specs.Walk.{Step, Wait, Take}
 use Rattle.step.specs.Step.{itemKind, hickupKind, unrecoverableKind}
@@ -39,10 +36,3 @@ heardOutline s o =
     pick (flag 1 (o .«header_type»))
     (heardExtended (flag 2 (o .«header_type»)) (o .length - allHeaders (o .«header_type»)) (o .place) (16 + o .length) s (o .place + 16 + allHeaders (o .«header_type»)))
     (heardRun 4 (o .length - allHeaders (o .«header_type»)) (o .place) (16 + o .length))
-
--- what a filter looks at
-unfoldable pub extendedOutlined : List ℕ → Outline → OptExtended
-extendedOutlined s o = extendedIf (flag 1 (o .«header_type»)) s (extendedPlace (o .«header_type») (o .place + 16))
-
-unfoldable pub ecuOutlined : List ℕ → Outline → OptRange
-ecuOutlined s o = ecuAt (o .«header_type») s (o .place + 16)
