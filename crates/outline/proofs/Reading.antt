@@ -53,9 +53,13 @@ module _ (s : List ℕ) (i t n a : ℕ) (is-all : a ≡ allHeaders t) where
 
 -- from the search on: l is what is left at the pattern
 module _ (s : List ℕ) (x : Found) (d : x ≡ find pattern s 0) where
-  pub glance-none : x ≡ Found.Nothing → OutlineAns.Unseen ≡ outlineOf s
+  pub glance-none : x ≡ Found.Nothing → 16 ≤ length s → OutlineAns.Nowhere 1 ≡ outlineOf s
   unfolding outlineOf
-  glance-none q = ap (outlineFrom s) (sym q ∙ d)
+  glance-none q h = rw (sym d ∙ q, le-leb 16 (length s) h)
+
+  pub glance-few : x ≡ Found.Nothing → length s < 16 → OutlineAns.Nowhere 0 ≡ outlineOf s
+  unfolding outlineOf
+  glance-few q h = rw (sym d ∙ q, lt-leb 16 (length s) h)
 
   module _ (i l : ℕ) (q : x ≡ Found.At i) (is-left : l ≡ length s - i) where
     pub glance-near : l < 42 → OutlineAns.Unseen ≡ outlineOf s
@@ -69,4 +73,4 @@ module _ (s : List ℕ) (x : Found) (d : x ≡ find pattern s 0) where
         let z : n ≡ lengthAt s (i + 16) = f ∙ ap (numberOf true 2 s) p in
         rw (sym d ∙ q, le-leb 42 (length s - i) (rw (← is-left) h), ← e, ← z) g
 
-pub ruleset glancing = (byte-read, byte-missing, pair-read, pair-missing, test-short, test-lacks, test-done, glance-none, glance-near, glance-at)
+pub ruleset glancing = (byte-read, byte-missing, pair-read, pair-missing, test-short, test-lacks, test-done, glance-none, glance-few, glance-near, glance-at)

@@ -7,13 +7,17 @@ use mathlib.Core.List.{List}
 use lib.ListN.{length}
 use lib.Dec.{leb}
 use borrow.Author.Tests.{leb-true, leb-false}
-use Rattle.wire.specs.Answer.Ans.{done, hickup}
-use Rattle.wire.specs.Parser.{pick}
+use native.Mathlib.Nat.{sub-zero}
+use Rattle.wire.specs.Answer.Ans.{done, need, hickup}
+use Rattle.wire.specs.Parser.{pick, follow, choose, _>>=_}
 use Rattle.mark.specs.First.{pattern, find}
 use Rattle.mark.specs.declared.Found.{Found}
 use Rattle.headertype.specs.HeaderType.{allHeaders}
 use Rattle.filter.specs.declared.Filter.{Filter}
-use Rattle.parse.specs.Message.{routed}
+use Rattle.storage.specs.Storage.{marked, storage}
+use Rattle.storage.specs.declared.OptStored.{OptStored}
+use Rattle.parse.specs.Message.{headers, routed}
+use Rattle.facts.proofs.Laws.{headers-of-nothing}
 use Rattle.outline.specs.There.{typeAt, lengthAt, headersAt}
 use Rattle.outline.specs.Outline.{tested, outlineFrom, outlineOf}
 use Rattle.outline.specs.declared.Outline.{Outline}
@@ -38,9 +42,15 @@ pub record Refused (s : List ℕ) (i : ℕ) : Type 0 where
   pub there : i + 42 ≤ length s
   pub below : lengthAt s (i + 16) < allHeaders (typeAt s (i + 16))
 
+-- and behind no pattern
+pub record Missed (s : List ℕ) (n : ℕ) : Type 0 where
+  pub nothing : find pattern s 0 ≡ Found.Nothing
+  pub need-is : n ≡ pick (leb 16 (length s)) 1 0
+
 abbrev Told : List ℕ → OutlineAns → Type 0
 Told s (OutlineAns.Done o) = Seen s o
 Told s (OutlineAns.Hickup i) = Refused s i
+Told s (OutlineAns.Nowhere n) = Missed s n
 Told s OutlineAns.Unseen = Unit
 
 module _ (s : List ℕ) (i : ℕ) (q : find pattern s 0 ≡ Found.At i) (h : i + 42 ≤ length s) where
@@ -68,7 +78,7 @@ tells s = by (find pattern s 0) refl
 
     by : (x : Found) → find pattern s 0 ≡ x → Told s (outlineFrom s x)
     by (Found.At i) q = at i (leb 42 (length s - i)) q refl
-    by Found.Nothing q = tt
+    by Found.Nothing q = record { nothing = q; need-is = refl }
 
 -- the same of a call's answer, r
 module _ (s : List ℕ) (r : OutlineAns) (e : r ≡ outlineOf s) where
@@ -77,6 +87,9 @@ module _ (s : List ℕ) (r : OutlineAns) (e : r ≡ outlineOf s) where
 
   pub refused-of : (i : ℕ) → r ≡ OutlineAns.Hickup i → Refused s i
   refused-of i q = subst (Told s) (sym e ∙ q) (tells s)
+
+  pub missed-of : (n : ℕ) → r ≡ OutlineAns.Nowhere n → Missed s n
+  missed-of n q = subst (Told s) (sym e ∙ q) (tells s)
 
 -- ---- the rule's answer
 module _ (f : List ℕ) (filter : Filter) (s : List ℕ) where
@@ -92,3 +105,11 @@ module _ (f : List ℕ) (filter : Filter) (s : List ℕ) where
 
   pub refused-routed : (i : ℕ) → Refused s i → routed f filter true s 0 ≡ hickup 1
   refused-routed i w = routed-short f filter s i (w .found) (w .there) (w .below)
+
+  pub missed-routed : (n : ℕ) → Missed s n → routed f filter true s 0 ≡ need n
+  unfolding routed choose storage marked _>>=_
+  missed-routed n w = rw (w .nothing, w .need-is, sub-zero) (by (leb 16 (length s)))
+    where
+      by : (b : Bool) → follow (pick b (done OptStored.Absent (length s)) (need 0)) (λ o. headers f filter o) s ≡ need (pick b 1 0)
+      by true = headers-of-nothing f filter OptStored.Absent s
+      by false = refl

@@ -40,7 +40,7 @@ use Rattle.outline.specs.Outline.{outlineOf}
 use Rattle.outline.specs.declared.Outline.{Outline}
 use Rattle.outline.specs.declared.OutlineAns.{OutlineAns}
 use Rattle.outline.proofs.There.{number-there, id-there, headers-end}
-use Rattle.outline.proofs.Seen.{Seen, seen-of, refused-of, seen-routed, refused-routed}
+use Rattle.outline.proofs.Seen.{Seen, seen-of, refused-of, missed-of, seen-routed, refused-routed, missed-routed}
 use Rattle.outline.proofs.Pass.{passes-all}
 
 module _ (s : List ℕ) (at : ℕ) where
@@ -139,7 +139,10 @@ module _ (f : List ℕ) (filter : Filter) (s : List ℕ) (stored : Bool) (is-sto
   pub quick-hickup : (i : ℕ) → r ≡ OutlineAns.Hickup i → hickup 1 ≡ routed f filter stored s 0
   quick-hickup i q = rw is-stored (sym (refused-routed f filter s i (refused-of s r e i q)))
 
+  pub quick-need : (n : ℕ) → r ≡ OutlineAns.Nowhere n → need n ≡ routed f filter stored s 0
+  quick-need n q = rw is-stored (sym (missed-routed f filter s n (missed-of s r e n q)))
+
 pub glanced : (s : List ℕ) (r : OutlineAns) (o : Outline) → r ≡ outlineOf s → r ≡ OutlineAns.Done o → outlineOf s ≡ OutlineAns.Done o
 glanced s r o e q = sym e ∙ q
 
-pub ruleset straight = (word-read, word-missing, id-read, id-missing, id-present, number-present, behind-four, order-big, order-little, stored-read, standard-read, extended-read, passes-all, headers-read, quick-done, quick-hickup, glanced)
+pub ruleset straight = (word-read, word-missing, id-read, id-missing, id-present, number-present, behind-four, order-big, order-little, stored-read, standard-read, extended-read, passes-all, headers-read, quick-done, quick-hickup, quick-need, glanced)

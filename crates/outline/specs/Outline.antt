@@ -20,9 +20,10 @@ tested s i type n =
     (pick (leb n (length s - (i + 16))) (OutlineAns.Done (record { place = i; «header_type» = type; length = n })) OutlineAns.Unseen)
     (OutlineAns.Hickup i)
 
+-- no pattern: under 16 bytes the need is unknown, else it is 1
 abbrev pub outlineFrom : List ℕ → Found → OutlineAns
 outlineFrom s (Found.At i) = pick (leb 42 (length s - i)) (tested s i (typeAt s (i + 16)) (lengthAt s (i + 16))) OutlineAns.Unseen
-outlineFrom s Found.Nothing = OutlineAns.Unseen
+outlineFrom s Found.Nothing = OutlineAns.Nowhere (pick (leb 16 (length s)) 1 0)
 
 unfoldable pub outlineOf : List ℕ → OutlineAns
 outlineOf s = outlineFrom s (find pattern s 0)

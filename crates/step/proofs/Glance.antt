@@ -15,7 +15,7 @@ use Rattle.wire.specs.Run.{range, bytes, rangeAns}
 use Rattle.wire.specs.declared.Range.{Range}
 use Rattle.wire.specs.declared.RangeAns.{RangeAns}
 use Rattle.wire.specs.declared.GotRange.{GotRange}
-use Rattle.wire.proofs.Step.{told, step, then-done, then-hickup, fixed-done, ret-is, here-is, fail-is, choose-true, choose-false}
+use Rattle.wire.proofs.Step.{told, step, then-done, then-need, then-hickup, fixed-done, ret-is, here-is, fail-is, choose-true, choose-false}
 use Rattle.strings.specs.Text.{identified, textOf}
 use Rattle.mark.specs.First.{pattern, find}
 use Rattle.mark.specs.declared.Found.{Found}
@@ -44,7 +44,7 @@ use Rattle.outline.specs.declared.Outline.{Outline}
 use Rattle.outline.specs.declared.OutlineAns.{OutlineAns}
 use Rattle.outline.proofs.There.{number-there, id-there, extended-there, headers-end, extended-place, declared-again}
 use Rattle.outline.proofs.Pass.{all-pass}
-use Rattle.outline.proofs.Seen.{Seen, Refused, seen-of, refused-of, seen-routed, refused-routed}
+use Rattle.outline.proofs.Seen.{Seen, Refused, seen-of, refused-of, missed-of, seen-routed, refused-routed, missed-routed}
 use Rattle.walk.specs.Walk.{Step, Wait, Take}
 use Rattle.step.specs.Step.{heard, heardPayload, heardDropped, skippedTo, lengthOf, asked}
 use Rattle.step.specs.Glance.{heardList, heardRun, heardExtended, heardOutline}
@@ -243,4 +243,8 @@ module _ (f : List ℕ) (filter : Filter) (s : List ℕ) (r : OutlineAns) (e : r
       let v = refused-of s r e i q in
       rw (v .found, then-hickup (routed f filter true) body s 0 (refused-routed f filter s i v))
 
-pub ruleset glancing = (list-done, list-need, list-hickup, run-there, run-short, info-verbose, info-control, info-plain, outline-extended, outline-plain, glanced, asked-outline, asked-refused)
+  pub asked-nowhere : (n : ℕ) → r ≡ OutlineAns.Nowhere n → Wait n ≡ asked f filter s
+  unfolding asked message
+  asked-nowhere n q = rw (then-need (routed f filter true) body s 0 (missed-routed f filter s n (missed-of s r e n q)))
+
+pub ruleset glancing = (list-done, list-need, list-hickup, run-there, run-short, info-verbose, info-control, info-plain, outline-extended, outline-plain, glanced, asked-outline, asked-refused, asked-nowhere)

@@ -20,4 +20,5 @@ glance-spec =
     (λ c κs. search needs)
     (λ c. search needs)
     (λ c. search glancing depth 20)
+    (λ c. search glancing depth 20)
     (λ c. search glancing depth 20))

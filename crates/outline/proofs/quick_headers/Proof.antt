@@ -17,5 +17,7 @@ quick-headers-spec =
     (λ c. search needs)
     (λ c. search straight depth 20)
     (λ c. search needs)
+    (λ c. search straight depth 20)
+    (λ c. search needs)
     (λ c κs. search (needs, glanced))
     (λ c. search straight depth 20))
