@@ -54,8 +54,7 @@ module _ (f : List ℕ) where
   pub in-portions : (ns : List ℕ) (s : List ℕ) (st : State) (T : List Entry) → repeated entryForm f s st T ns ≡ call entryForm f (total ns) s st T
   in-portions = any.in-portions entryForm entry-sound f
 
-  pub repeated-calls : (ns : List ℕ) (s : List ℕ) (st : State) (T : List Entry) → Above ns → length s < length ns → length s < unlimited
-      → repeated entryForm f s st T ns ≡ whole entryForm f s st T
+  pub repeated-calls : (ns : List ℕ) (s : List ℕ) (st : State) (T : List Entry) → Above ns → length s < length ns → repeated entryForm f s st T ns ≡ whole entryForm f s st T
   repeated-calls = any.repeated-calls entryForm entry-sound f
 
   pub cancelled : (ns ms ks : List ℕ) (old new t : List ℕ) (st : State) (T : List Entry) → st .at + length (drop (st .at) old ++ t) ≤ limit
@@ -68,7 +67,7 @@ module _ (f : List ℕ) where
       ≡ repeated entryForm f (drop (st .at) old ++ t) st T ks
   cancelled = any.cancelled entryForm entry-sound f
 
-  pub no-limit : (n m : ℕ) (s : List ℕ) (st : State) (T : List Entry) → length s < n → length s < m → call entryForm f n s st T ≡ call entryForm f m s st T
+  pub no-limit : (n : ℕ) (s : List ℕ) (st : State) (T : List Entry) → length s < n → call entryForm f n s st T ≡ whole entryForm f s st T
   no-limit = any.no-limit entryForm entry-sound f
 
   pub counted : (n : ℕ) (s : List ℕ) (st : State) (T : List Entry) → call entryForm f n s st T .answer .state .used ≡ st .used + call entryForm f n s st T .answer .taken

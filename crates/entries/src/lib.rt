@@ -8,7 +8,7 @@ ghost use lib.ListN.{length, drop};
 ghost use Rattle.step.specs.Step.{asked};
 ghost use Rattle.index.specs.Index.{limit, call};
 ghost use Rattle.entries.specs.Form.{entryForm};
-ghost use Rattle.entries.specs.Turn.{stopOf, turnOf, firstOf, nextOf, Apt};
+ghost use Rattle.entries.specs.Turn.{stopOf, writeOf, turnOf, firstOf, nextOf, Apt};
 use filter::Filter;
 use filter::FilterAns;
 use headertype::OptRange;
@@ -70,6 +70,48 @@ fn stop(state: State, taken: usize, end: End) -> Turn
     }
 }
 
+// An entry is due at the first free place, and the next turn is past it.
+fn write(
+    filter: Filter,
+    from: usize,
+    cap: usize,
+    used: usize,
+    at: usize,
+    most: usize,
+    taken: usize,
+    skipped: usize,
+    len: usize,
+    kind: u64,
+) -> Turn
+    requires { ⌜ from + (at + (skipped + len)) ≤ limit ⌝ }
+    ensures { λ r. ⌜ r ≡ writeOf filter from cap used at most taken skipped len kind ⌝ }
+{
+    let here = from + at;
+    let start = here + skipped;
+    let past = at + (skipped + len);
+    let state = State { at: here, used };
+    Turn {
+        go: true,
+        place: used,
+        entry: Entry {
+            start: start as u64,
+            skipped: skipped as u64,
+            length: len as u64,
+            kind,
+        },
+        answer: Indexed {
+            state,
+            taken,
+            end: End::Full,
+        },
+        at: past,
+        from,
+        cap,
+        filter,
+        most,
+    }
+}
+
 // What is due past `at` of the bytes, with `used` entries in the table, of which this call wrote `taken` and may write `most`.
 fn due(
     s: &[u8],
@@ -96,28 +138,7 @@ fn due(
             if cap <= used {
                 return stop(state, taken, End::Full);
             }
-            let start = here + skipped;
-            let past = at + (skipped + len);
-            Turn {
-                go: true,
-                place: used,
-                entry: Entry {
-                    start: start as u64,
-                    skipped: skipped as u64,
-                    length: len as u64,
-                    kind,
-                },
-                answer: Indexed {
-                    state,
-                    taken,
-                    end: End::Full,
-                },
-                at: past,
-                from,
-                cap,
-                filter,
-                most,
-            }
+            write(filter, from, cap, used, at, most, taken, skipped, len, kind)
         }
     }
 }

@@ -257,19 +257,19 @@ module _ {A : Type 0} (form : Form A) (sound : Sound form) (f : List ℕ) where
 
   -- ---- limits
 
-  -- a limit above the number of bytes is as good as none; so is any above 4,294,967,295, whatever the bytes
-  pub no-limit : (n m : ℕ) (s : List ℕ) (st : State) (T : List A) → length s < n → length s < m → call form f n s st T ≡ call form f m s st T
-  no-limit n m s st T h g = by (came n s st T)
+  -- a limit above the number of bytes is as good as none
+  pub no-limit : (n : ℕ) (s : List ℕ) (st : State) (T : List A) → length s < n → call form f n s st T ≡ whole form f s st T
+  no-limit n s st T h = by (came n s st T)
     where
-      by : Came n s st T → call form f n s st T ≡ call form f m s st T
-      by (no e a b q) = q n s ∙ sym (q m s)
-      by (long l q) = q n ∙ sym (q m)
+      by : Came n s st T → call form f n s st T ≡ whole form f s st T
+      by (no e a b q) = q n s ∙ sym (q unlimited s)
+      by (long l q) = q n ∙ sym (q unlimited)
       by (yes filter free l c q) =
           q n
           ∙ ahead-so form sound f filter n s st T
-          ∙ ap (laid form T (st .used)) (enough (asked f filter) (fair f filter) n m (form .holds (length T) - st .used) (st .at) s h g)
-          ∙ sym (ahead-so form sound f filter m s st T)
-          ∙ sym (q m)
+          ∙ ap (laid form T (st .used)) (enough (asked f filter) (fair f filter) n unlimited (form .holds (length T) - st .used) (st .at) s h (omega arith))
+          ∙ sym (ahead-so form sound f filter unlimited s st T)
+          ∙ sym (q unlimited)
 
   -- a call that stops after n, and where it was Paused one that stops after m, is one call that stops after n + m
   pub in-a-row : (n m : ℕ) (s : List ℕ) (st : State) (T : List A)
@@ -310,9 +310,8 @@ module _ {A : Type 0} (form : Form A) (sound : Sound form) (f : List ℕ) where
   high (n ∷ ns) h = omega (arith, high ns (h .1))
 
   -- so with limits above 0 it ends as one call without a limit, and its numbers add up to that call's; as many calls as there are bytes, and one, are enough
-  pub repeated-calls : (ns : List ℕ) (s : List ℕ) (st : State) (T : List A) → Above ns → length s < length ns → length s < unlimited
-      → repeated form f s st T ns ≡ whole form f s st T
-  repeated-calls ns s st T h g u = in-portions ns s st T ∙ no-limit (total ns) unlimited s st T (omega (arith, high ns h)) u
+  pub repeated-calls : (ns : List ℕ) (s : List ℕ) (st : State) (T : List A) → Above ns → length s < length ns → repeated form f s st T ns ≡ whole form f s st T
+  repeated-calls ns s st T h g = in-portions ns s st T ∙ no-limit (total ns) s st T (omega (arith, high ns h))
 
   -- A loop over a trace is cancelled behind some of its calls (ns), and goes on later (ms): of the old bytes only those from the resume position on need be
   -- unchanged, and t is added at the end. It ends as the loop that was not cancelled (ks) does over all the bytes
@@ -326,7 +325,7 @@ module _ {A : Type 0} (form : Form A) (sound : Sound form) (f : List ℕ) where
       ≡ repeated form f (drop (st .at) old ++ t) st T ks
   cancelled ns ms ks old new t st T l e hm gm hk gk =
       go (repeated form f (drop (st .at) old) st T ns) (in-portions ns (drop (st .at) old) st T) e gm
-      ∙ sym (repeated-calls ks (drop (st .at) old ++ t) st T hk gk (omega arith))
+      ∙ sym (repeated-calls ks (drop (st .at) old ++ t) st T hk gk)
     where
       go : (a : Outcome A) → a ≡ over-trace form f (total ns) old st T → drop (a .answer .state .at) new ≡ drop (a .answer .state .at) old ++ t
           → length (drop (a .answer .state .at) new) < length ms
@@ -336,10 +335,8 @@ module _ {A : Type 0} (form : Form A) (sound : Sound form) (f : List ℕ) where
           let same′ = rw is at same in
           let few′ = rw is at few in
           let n = total ns in
-          let short : length (drop (b .answer .state .at) new) < unlimited =
-          omega (arith, ap length same′, length-append (drop (b .answer .state .at) old) t, length-append (drop (st .at) old) t, length-drop (b .answer .state .at) old, length-drop (st .at) old, onward n (drop (st .at) old) st T) in
           ap (λ (x : Outcome A). adding (x .answer .taken) (repeated form f (drop (x .answer .state .at) new) (x .answer .state) (x .table) ms)) is
-          ∙ ap (adding (b .answer .taken)) (repeated-calls ms (drop (b .answer .state .at) new) (b .answer .state) (b .table) hm few′ short)
+          ∙ ap (adding (b .answer .taken)) (repeated-calls ms (drop (b .answer .state .at) new) (b .answer .state) (b .table) hm few′)
           ∙ resumed n old new t st T l same′
 
   -- a call that stops after 0 changes nothing, and unless it is refused it is Paused

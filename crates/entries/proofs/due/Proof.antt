@@ -83,14 +83,8 @@ stop-requires-3 c κs = search needs
 returns-2 : tie.Need-returns-2
 returns-2 c = c .stop3 .ensures ∙ turn-full _ _ _ _ _ _ _ (omega arith) (takes (c .before .before .before)) (omega arith)
 
-add-start : tie.Need-add-start
-add-start c = omega (arith, lies (c .before .before))
-
-add-past : tie.Need-add-past
-add-past c = omega (arith, lies (c .before .before))
-
-add-past-2 : tie.Need-add-past-2
-add-past-2 c = omega (arith, lies (c .before .before))
+write-requires : tie.Need-write-requires
+write-requires c κs = omega (arith, lies (c .before .before))
 
 returns-3 : tie.Need-returns-3
 returns-3 c =
@@ -100,9 +94,7 @@ returns-3 c =
     (ap (asked (now (a .f)) (a .filter)) (sym (tail-part (now (a .s)) (a .at))) ∙ sym (c .before .before .before .before .ask .ensures) ∙ ap stepOf (c .before .before .need .given .1))
 
 returns-4 : tie.Need-returns-4
-returns-4 c =
-    let a = c .before .before .before .before .before .before .before .before .before .args in
-    turn-writes (a .filter) (a .from) (a .cap) (a .used) (a .at) (a .most) (a .taken) (omega arith) (takes (c .before .before)) (omega arith)
+returns-4 c = c .write .ensures ∙ turn-writes _ _ _ _ _ _ _ (omega arith) (takes (c .before .before .before)) (omega arith)
 
 pub due-spec : {M : Type 1} → statement M
 due-spec =
@@ -120,8 +112,6 @@ due-spec =
     enum-known-skipped
     stop-requires-3
     returns-2
-    add-start
-    add-past
-    add-past-2
+    write-requires
     returns-3
     returns-4)
