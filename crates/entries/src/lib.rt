@@ -88,7 +88,6 @@ fn write(
 {
     let here = from + at;
     let start = here + skipped;
-    let past = at + (skipped + len);
     let state = State { at: here, used };
     Turn {
         go: true,
@@ -104,7 +103,7 @@ fn write(
             taken,
             end: End::Full,
         },
-        at: past,
+        at: at + (skipped + len),
         from,
         cap,
         filter,
