@@ -76,7 +76,7 @@ fn core_messages(bytes: &[u8], filter: Option<&ProcessedDltFilterConfig>) -> u64
 
 /// The trace index from a fresh state: how many entries.
 fn ours_indexed(bytes: &[u8], filter: &[u8], table: &mut [u64]) -> u64 {
-    host::raw::index(bytes, filter, 0, 0, table).used
+    host::raw::index(bytes, filter, 0, 0, table, host::NO_LIMIT).used
 }
 
 /// The same in calls that are each given the bytes from the resume position on, `more` of them new.
@@ -84,7 +84,7 @@ fn resumed(bytes: &[u8], more: usize, table: &mut [u64]) -> u64 {
     let (mut at, mut used, mut end) = (0, 0, 0);
     while end < bytes.len() {
         end = bytes.len().min(end + more);
-        let answer = host::raw::index(&bytes[at..end], &[], at, used, table);
+        let answer = host::raw::index(&bytes[at..end], &[], at, used, table, host::NO_LIMIT);
         (at, used) = (answer.at as usize, answer.used as usize);
     }
     used as u64

@@ -42,8 +42,8 @@ int main(void) {
     MEASURE("dlt_message, with a filter", a = dlt_message(message, sizeof message, filter, sizeof filter, true, out, 64));
     if (a.number != 0) printf("dlt_message answered %d\n", (int)a.number);
     MEASURE("dlt_argument", a = dlt_argument(message, sizeof message, at + 14, left - 2, false, out, 64));
-    MEASURE("dlt_index", i = dlt_index(message, sizeof message, filter, 0, 0, 0, table, 64));
-    MEASURE("dlt_index, with a filter", i = dlt_index(message, sizeof message, filter, sizeof filter, 0, 0, table, 64));
+    MEASURE("dlt_index", i = dlt_index(message, sizeof message, filter, 0, 0, 0, table, 64, SIZE_MAX));
+    MEASURE("dlt_index, with a filter", i = dlt_index(message, sizeof message, filter, sizeof filter, 0, 0, table, 64, SIZE_MAX));
     MEASURE("dlt_forward_to_next_storage_header", a = dlt_forward_to_next_storage_header(message, sizeof message, 1));
     MEASURE("dlt_consume_msg", a = dlt_consume_msg(message, sizeof message));
     MEASURE("dlt_construct_arguments", a = dlt_construct_arguments(false, words, 2, data, sizeof data));

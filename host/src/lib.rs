@@ -19,7 +19,7 @@ pub mod text;
 mod trace;
 
 pub use argument::{arguments, signals, Argument, Arguments, FixedPoint, Kind, Offset, Signals, TypeInfo, Value};
-pub use trace::{index, End, Entry, EntryKind, IndexRefusal, State};
+pub use trace::{index, index_in_steps, End, Entry, EntryKind, IndexRefusal, Indexed, State, NO_LIMIT};
 pub use message::{message, Cursor, ExtendedHeader, Message, MessageType, Parsed, Payload, StandardHeader, StorageHeader};
 
 /// Why there is no value: document 01's numbers 1 to 4.

@@ -13,7 +13,7 @@ pub struct Answer {
     pub used: u64,
 }
 
-/// The index call's answer: document 01's number, the need, the state.
+/// The index call's answer: document 01's number, the need, the state, and how many entries the call wrote.
 #[repr(C)]
 #[derive(Clone, Copy, Debug, PartialEq, Eq)]
 pub struct IndexAnswer {
@@ -21,6 +21,7 @@ pub struct IndexAnswer {
     pub need: u64,
     pub at: u64,
     pub used: u64,
+    pub taken: u64,
 }
 
 mod archive {
@@ -32,7 +33,7 @@ mod archive {
         pub fn dlt_consume_msg(s: *const u8, s_len: usize) -> Answer;
         pub fn dlt_construct_arguments(big: bool, words: *const u32, words_len: usize, data: *const u8, data_len: usize) -> Answer;
         pub fn dlt_signal(words: *const u32, words_len: usize, data: *const u8, data_len: usize, at: usize, word: usize, big: bool, out: *mut u64, out_len: usize) -> Answer;
-        pub fn dlt_index(s: *const u8, s_len: usize, f: *const u8, f_len: usize, at: usize, used: usize, table: *mut u64, table_len: usize) -> IndexAnswer;
+        pub fn dlt_index(s: *const u8, s_len: usize, f: *const u8, f_len: usize, at: usize, used: usize, table: *mut u64, table_len: usize, n: usize) -> IndexAnswer;
     }
 }
 
@@ -68,7 +69,7 @@ pub fn signal(words: &[u32], data: &[u8], at: usize, word: usize, big: bool, out
     unsafe { archive::dlt_signal(words.as_ptr(), words.len(), data.as_ptr(), data.len(), at, word, big, out.as_mut_ptr(), out.len()) }
 }
 
-/// The index call over a flat table.
-pub fn index(s: &[u8], f: &[u8], at: usize, used: usize, table: &mut [u64]) -> IndexAnswer {
-    unsafe { archive::dlt_index(s.as_ptr(), s.len(), f.as_ptr(), f.len(), at, used, table.as_mut_ptr(), table.len()) }
+/// The index call over a flat table. It stops after `n` entries.
+pub fn index(s: &[u8], f: &[u8], at: usize, used: usize, table: &mut [u64], n: usize) -> IndexAnswer {
+    unsafe { archive::dlt_index(s.as_ptr(), s.len(), f.as_ptr(), f.len(), at, used, table.as_mut_ptr(), table.len(), n) }
 }

@@ -167,18 +167,24 @@ pub fn args(big: bool, words: &[u32], data: &[u8]) -> String {
     }
 }
 
-/// The answer to `index`, over a fresh table of `cap` entries.
-pub fn index(cap: usize, at: usize, used: usize, filter: &[u8], bytes: &[u8]) -> String {
+/// The answer to `index`, over a fresh table of `cap` entries. Only with a limit does it tell how many were taken.
+pub fn index(cap: usize, at: usize, used: usize, filter: &[u8], bytes: &[u8], limit: Option<usize>) -> String {
+    use crate::{End, IndexRefusal, Indexed, NO_LIMIT};
     let mut table = vec![crate::Entry::default(); cap];
-    let given = crate::State { at, used };
-    let (number, after, need) = match crate::index(bytes, filter, given, &mut table) {
-        Ok((after, crate::End::Waits(need))) => (0, after, need.to_string()),
-        Ok((after, crate::End::Full)) => (7, after, "-".to_string()),
-        Err(crate::IndexRefusal::BadFilter) => (1, given, "-".to_string()),
-        Err(crate::IndexRefusal::BadState) => (5, given, "-".to_string()),
-        Err(crate::IndexRefusal::TooLong) => (6, given, "-".to_string()),
+    let state = crate::State { at, used };
+    let dash = || "-".to_string();
+    let (number, after, taken, need) = match crate::index(bytes, filter, state, &mut table, limit.unwrap_or(NO_LIMIT)) {
+        Ok(Indexed { state, taken, end: End::Waits(need) }) => (0, state, taken, need.to_string()),
+        Ok(Indexed { state, taken, end: End::Full }) => (7, state, taken, dash()),
+        Ok(Indexed { state, taken, end: End::Paused }) => (8, state, taken, dash()),
+        Err(IndexRefusal::BadFilter) => (1, state, 0, dash()),
+        Err(IndexRefusal::BadState) => (5, state, 0, dash()),
+        Err(IndexRefusal::TooLong) => (6, state, 0, dash()),
     };
     let mut line = format!("{number} resume={} used={} need={need}", after.at, after.used);
+    if limit.is_some() {
+        line += &format!(" taken={taken}");
+    }
     for entry in table.iter().take(after.used).skip(used) {
         line += &format!(" ({})", entry_text(entry));
     }
@@ -204,9 +210,10 @@ pub fn answer(line: &str) -> Option<String> {
         ["fwd", bytes] => Some(fwd(&hex(bytes)?)),
         ["consume", bytes] => Some(consume(&hex(bytes)?)),
         ["args", order @ ("L" | "l" | "B" | "b"), words, data] => Some(args(order.eq_ignore_ascii_case("b"), &hex_words(words)?, &hex(data)?)),
-        ["index", cap, at, used, filter, bytes] => {
+        ["index", cap, at, used, filter, bytes, ref limit @ ..] if limit.len() <= 1 => {
             let number = |word: &str| word.parse::<usize>().ok();
-            Some(index(number(cap).filter(|cap| *cap <= 4096)?, number(at)?, number(used)?, &hex(filter)?, &hex(bytes)?))
+            let limit = limit.first().map(|word| number(word).ok_or(())).transpose().ok()?;
+            Some(index(number(cap).filter(|cap| *cap <= 4096)?, number(at)?, number(used)?, &hex(filter)?, &hex(bytes)?, limit))
         }
         _ => None,
     }

@@ -1,6 +1,7 @@
 //! The trace index: entries in a table that the host owns, and a state of two numbers between calls.
 
 use crate::raw;
+use std::num::NonZeroUsize;
 
 /// What an entry is.
 #[derive(Clone, Copy, Debug, PartialEq, Eq)]
@@ -56,7 +57,23 @@ pub enum End {
     Waits(u64),
     /// A decided message remains and the table has no free entry.
     Full,
+    /// It took as many entries as it may, and looked no further.
+    Paused,
 }
+
+/// What a call leaves besides the table.
+#[derive(Clone, Copy, Debug, PartialEq, Eq)]
+pub struct Indexed {
+    /// Where the next call goes on.
+    pub state: State,
+    /// How many entries this call wrote.
+    pub taken: usize,
+    /// How it ended.
+    pub end: End,
+}
+
+/// No limit: no call can take so many entries.
+pub const NO_LIMIT: usize = usize::MAX;
 
 /// Why a call did nothing: state and table are as they were.
 #[derive(Clone, Copy, Debug, PartialEq, Eq)]
@@ -69,29 +86,70 @@ pub enum IndexRefusal {
     TooLong,
 }
 
-/// The index call. `bytes` are those from the state's resume position on.
+/// The index call. `bytes` are those from the state's resume position on. It stops after `n` entries; [`NO_LIMIT`] is none.
 ///
 /// ```
+/// use host::{index, Entry, End, EntryKind, State, NO_LIMIT};
 /// // an item of 24 bytes, one byte of junk, a pattern; then the rest of a second message
 /// let trace = [&b"DLT\x01\x01\0\0\0\x02\0\0\0ECU\0"[..], &[0x20, 7, 0, 8, 0, 0, 0, 42], &[0xFF], b"DLT\x01", &[0; 12], &[0x20, 8, 0, 3]].concat();
-/// let mut table = vec![host::Entry::default(); 8];
-/// let (state, end) = host::index(&trace[..30], &[], host::State::default(), &mut table).unwrap();
-/// assert_eq!((state, end), (host::State { at: 24, used: 1 }, host::End::Waits(0)));
+/// let mut table = vec![Entry::default(); 8];
+/// let first = index(&trace[..30], &[], State::default(), &mut table, NO_LIMIT).unwrap();
+/// assert_eq!((first.state, first.end), (State { at: 24, used: 1 }, End::Waits(0)));
 /// // the bytes before 24 are the host's again; those from 24 on come once more, with what was added
-/// let (state, end) = host::index(&trace[24..], &[], state, &mut table).unwrap();
-/// assert_eq!((state, end), (host::State { at: 29, used: 2 }, host::End::Waits(1)));
-/// assert_eq!((table[1].start, table[1].skipped, table[1].kind()), (25, 1, host::EntryKind::Hickup));
+/// let then = index(&trace[24..], &[], first.state, &mut table, NO_LIMIT).unwrap();
+/// assert_eq!((then.state, then.end), (State { at: 29, used: 2 }, End::Waits(1)));
+/// assert_eq!((first.taken, then.taken), (1, 1));
+/// assert_eq!((table[1].start, table[1].skipped, table[1].kind()), (25, 1, EntryKind::Hickup));
 /// ```
-pub fn index(bytes: &[u8], filter: &[u8], state: State, table: &mut [Entry]) -> Result<(State, End), IndexRefusal> {
+pub fn index(bytes: &[u8], filter: &[u8], state: State, table: &mut [Entry], n: usize) -> Result<Indexed, IndexRefusal> {
     // an entry is four u64 in a row and no more
     let numbers = unsafe { std::slice::from_raw_parts_mut(table.as_mut_ptr().cast::<u64>(), 4 * table.len()) };
-    let answer = raw::index(bytes, filter, state.at, state.used, numbers);
-    let after = State { at: answer.at as usize, used: answer.used as usize };
-    match answer.number {
-        raw::DONE => Ok((after, End::Waits(answer.need))),
-        raw::FULL => Ok((after, End::Full)),
-        raw::BAD_FILTER => Err(IndexRefusal::BadFilter),
-        raw::BAD_STATE => Err(IndexRefusal::BadState),
-        _ => Err(IndexRefusal::TooLong),
+    let answer = raw::index(bytes, filter, state.at, state.used, numbers, n);
+    let end = match answer.number {
+        raw::DONE => End::Waits(answer.need),
+        raw::FULL => End::Full,
+        raw::PAUSED => End::Paused,
+        raw::BAD_FILTER => return Err(IndexRefusal::BadFilter),
+        raw::BAD_STATE => return Err(IndexRefusal::BadState),
+        _ => return Err(IndexRefusal::TooLong),
+    };
+    let state = State { at: answer.at as usize, used: answer.used as usize };
+    Ok(Indexed { state, taken: answer.taken as usize, end })
+}
+
+/// The index call, `n` entries at a time, until it ends or `cancel` says so. Not cancelled, it leaves what one call without a limit leaves, and takes as
+/// many entries.
+///
+/// `cancel` is asked between two calls: there the table and what it is shown are all that there is to keep. To go on, at any later time and with more
+/// bytes at the end, give the state back and the bytes from its resume position on.
+///
+/// ```
+/// use host::{index_in_steps, Entry, End, State};
+/// let trace = [&b"DLT\x01\x01\0\0\0\x02\0\0\0ECU\0"[..], &[0x20, 7, 0, 8, 0, 0, 0, 42], &[0xFF], b"DLT\x01", &[0; 12], &[0x20, 8, 0, 3]].concat();
+/// let mut table = vec![Entry::default(); 8];
+/// let one = 1.try_into().unwrap();
+/// // cancelled behind the first message
+/// let first = index_in_steps(&trace, &[], State::default(), &mut table, one, |_| true).unwrap();
+/// assert_eq!((first.state, first.taken, first.end), (State { at: 24, used: 1 }, 1, End::Paused));
+/// // and later it goes on
+/// let then = index_in_steps(&trace[first.state.at..], &[], first.state, &mut table, one, |_| false).unwrap();
+/// assert_eq!((then.state, then.taken, then.end), (State { at: 29, used: 2 }, 1, End::Waits(1)));
+/// ```
+pub fn index_in_steps(
+    bytes: &[u8],
+    filter: &[u8],
+    state: State,
+    table: &mut [Entry],
+    n: NonZeroUsize,
+    mut cancel: impl FnMut(&Indexed) -> bool,
+) -> Result<Indexed, IndexRefusal> {
+    let mut so_far = Indexed { state, taken: 0, end: End::Paused };
+    loop {
+        let step = index(&bytes[so_far.state.at - state.at..], filter, so_far.state, table, n.get())?;
+        so_far = Indexed { taken: so_far.taken + step.taken, ..step };
+        // here a cancel lands: no call is under way, and nothing is half done
+        if step.end != End::Paused || cancel(&so_far) {
+            return Ok(so_far);
+        }
     }
 }

@@ -52,8 +52,8 @@ fn ask(request: &Request) -> Line {
         Request::Arguments { big, words, bytes } => arguments::answer(*big, words, bytes),
         Request::Forward { bytes } => forward(bytes),
         Request::Length { bytes } => length(bytes),
-        Request::Index { table, resume, used, filter, bytes } => {
-            index::answer(*table, State { resume: *resume, used: *used }, filter, bytes)
+        Request::Index { table, resume, used, filter, bytes, limit } => {
+            index::answer(*table, State { resume: *resume, used: *used }, filter, bytes, *limit)
         }
         Request::List { bytes } => index::listing(bytes, "|"),
         Request::MessageInfo { byte } => message_info(*byte),

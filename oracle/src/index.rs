@@ -53,21 +53,35 @@ fn only_pattern(bytes: &[u8], kind: &'static str) -> Result<Step, String> {
     Ok(Step::Take { skipped: bytes_before_pattern(bytes)?, length: PATTERN, kind })
 }
 
-/// What a walk leaves: the new entries, the resume position, and the need unless the table was full.
+/// How a walk ended.
+#[derive(Clone, Copy, PartialEq)]
+pub enum End {
+    Waits(usize),
+    Full,
+    Paused,
+}
+
+/// What a walk leaves: the new entries, the resume position, and how it ended.
 pub struct Walk {
     pub entries: Vec<Entry>,
     pub resume: u64,
-    need: Option<usize>,
+    pub end: End,
 }
 
-fn walk(bytes: &[u8], resume: u64, room: usize, filter: Option<&ProcessedDltFilterConfig>) -> Result<Walk, String> {
+/// No limit.
+pub const NONE: u64 = u64::MAX;
+
+fn walk(bytes: &[u8], resume: u64, room: usize, limit: u64, filter: Option<&ProcessedDltFilterConfig>) -> Result<Walk, String> {
     let mut entries = Vec::new();
     let mut at = 0;
     loop {
         let position = resume + at as u64;
+        if entries.len() as u64 == limit {
+            return Ok(Walk { entries, resume: position, end: End::Paused });
+        }
         match step(&bytes[at..], filter)? {
-            Step::Wait { need } => return Ok(Walk { entries, resume: position, need: Some(need) }),
-            Step::Take { .. } if entries.len() == room => return Ok(Walk { entries, resume: position, need: None }),
+            Step::Wait { need } => return Ok(Walk { entries, resume: position, end: End::Waits(need) }),
+            Step::Take { .. } if entries.len() == room => return Ok(Walk { entries, resume: position, end: End::Full }),
             Step::Take { skipped, length, kind } => {
                 entries.push(Entry { start: position + skipped as u64, skipped, length, kind });
                 at += skipped + length;
@@ -84,7 +98,7 @@ pub struct State {
 }
 
 /// The answer's number, the state handed back, and the walk if there was one.
-pub fn call(table: usize, state: State, filter: &[u8], bytes: &[u8]) -> Result<(u8, State, Option<Walk>), String> {
+pub fn call(table: usize, state: State, filter: &[u8], bytes: &[u8], limit: u64) -> Result<(u8, State, Option<Walk>), String> {
     let Some(filter) = filter::read(filter) else {
         return Ok((1, state, None));
     };
@@ -94,17 +108,29 @@ pub fn call(table: usize, state: State, filter: &[u8], bytes: &[u8]) -> Result<(
     if u128::from(state.resume) + bytes.len() as u128 > LAST_POSITION {
         return Ok((6, state, None));
     }
-    let walk = walk(bytes, state.resume, table - state.used as usize, filter.as_ref())?;
-    let number = if walk.need.is_some() { 0 } else { 7 };
+    let walk = walk(bytes, state.resume, table - state.used as usize, limit, filter.as_ref())?;
+    let number = match walk.end {
+        End::Waits(_) => 0,
+        End::Full => 7,
+        End::Paused => 8,
+    };
     let after = State { resume: walk.resume, used: state.used + walk.entries.len() as u64 };
     Ok((number, after, Some(walk)))
 }
 
-pub fn answer(table: usize, state: State, filter: &[u8], bytes: &[u8]) -> Line {
-    let (number, after, walk) = call(table, state, filter, bytes)?;
-    let need = walk.as_ref().and_then(|walk| walk.need);
+/// Only with a limit does the answer tell how many entries were taken.
+pub fn answer(table: usize, state: State, filter: &[u8], bytes: &[u8], limit: Option<u64>) -> Line {
+    let (number, after, walk) = call(table, state, filter, bytes, limit.unwrap_or(NONE))?;
+    let need = match walk.as_ref().map(|walk| walk.end) {
+        Some(End::Waits(need)) => Some(need),
+        _ => None,
+    };
+    let entries = walk.map_or(Vec::new(), |walk| walk.entries);
     let mut line = format!("{number} resume={} used={} need={}", after.resume, after.used, or_dash(need));
-    for entry in walk.iter().flat_map(|walk| &walk.entries) {
+    if limit.is_some() {
+        line.push_str(&format!(" taken={}", entries.len()));
+    }
+    for entry in entries {
         line.push_str(&format!(" ({} {} {} {})", entry.start, entry.skipped, entry.length, entry.kind));
     }
     Ok(line)
@@ -124,14 +150,14 @@ pub fn whole_walk(bytes: &[u8]) -> Line {
 }
 
 fn lines_of_walk(bytes: &[u8], room: usize, ends: &str) -> Line {
-    let walk = walk(bytes, 0, room, None)?;
+    let walk = walk(bytes, 0, room, NONE, None)?;
     let mut lines = vec!["start skipped length kind".to_string()];
     for entry in &walk.entries {
         lines.push(format!("{} {} {} {}", entry.start, entry.skipped, entry.length, entry.kind));
     }
-    lines.push(match walk.need {
-        Some(need) => format!("waits {} {need}", walk.resume),
-        None => format!("full {}", walk.resume),
+    lines.push(match walk.end {
+        End::Waits(need) => format!("waits {} {need}", walk.resume),
+        _ => format!("full {}", walk.resume),
     });
     Ok(lines.join(ends))
 }

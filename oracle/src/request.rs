@@ -15,7 +15,7 @@ pub enum Request {
     Arguments { big: bool, words: Vec<u32>, bytes: Vec<u8> },
     Forward { bytes: Vec<u8> },
     Length { bytes: Vec<u8> },
-    Index { table: usize, resume: u64, used: u64, filter: Vec<u8>, bytes: Vec<u8> },
+    Index { table: usize, resume: u64, used: u64, filter: Vec<u8>, bytes: Vec<u8>, limit: Option<u64> },
     List { bytes: Vec<u8> },
     MessageInfo { byte: u8 },
     TypeInfo { word: u32 },
@@ -39,12 +39,16 @@ pub fn read(line: &[u8]) -> Option<Request> {
         }
         [b"fwd", bytes] => Some(Request::Forward { bytes: hex(bytes)? }),
         [b"len", bytes] => Some(Request::Length { bytes: hex(bytes)? }),
-        [b"index", table, resume, used, filter, bytes] => Some(Request::Index {
+        [b"index", table, resume, used, filter, bytes, ref limit @ ..] if limit.len() <= 1 => Some(Request::Index {
             table: table_size(table)?,
             resume: decimal(resume)?,
             used: decimal(used)?,
             filter: hex(filter)?,
             bytes: hex(bytes)?,
+            limit: match limit.first() {
+                Some(word) => Some(decimal(word)?),
+                None => None,
+            },
         }),
         [b"list", bytes] => Some(Request::List { bytes: hex(bytes)? }),
         [b"mi", [high, low]] => Some(Request::MessageInfo { byte: digit(*high)? * 16 + digit(*low)? }),

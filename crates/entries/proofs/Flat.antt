@@ -12,14 +12,14 @@ use lib.Dec.{ltb}
 use borrow.Author.Tests.{ltb-true, ltb-false}
 use Rattle.table.specs.Over.{over}
 use Rattle.walk.specs.Walk.{Entry as Found, Out}
-use Rattle.walk.specs.Table.{flat, finish}
+use Rattle.walk.specs.Table.{flat}
 use Rattle.walk.proofs.Laws.{walked, counts}
 use Rattle.walk.proofs.Going.{ended, flat-length}
 use Rattle.filter.specs.Filter.{filterOf}
 use Rattle.filter.specs.declared.Filter.{Filter}
 use Rattle.filter.specs.declared.FilterAns.{FilterAns}
 use Rattle.step.specs.Step.{asked}
-use Rattle.index.specs.Index.{limit, flatForm, shown, walkOf, ahead, checked, call, outcome}
+use Rattle.index.specs.Index.{limit, flatForm, shown, laid, walkOf, ahead, checked, call, outcome}
 use Rattle.index.specs.Calls.{fresh, totals}
 use Rattle.index.specs.declared.State.{State}
 use Rattle.index.proofs.Laws.{good-filter, bad-filter, bad-state, too-long, goes-ahead}
@@ -73,61 +73,61 @@ module _ {A B : Type 0} (w : ℕ) (f : A → List B) (wide : (x : A) → length 
 -- ---- the two calls
 
 -- the entries of a walk, as the one and as the other call lays them down
-laid : (es : List (Found ℕ)) → flat (flatForm .cells) es ≡ numbers (flat (entryForm .cells) es)
+one-by-one : (es : List (Found ℕ)) → flat (flatForm .cells) es ≡ numbers (flat (entryForm .cells) es)
 unfolding spread
-laid [] = refl
-laid (e ∷ es) = ap (λ (l : List ℕ). flatForm .cells e ++ l) (laid es)
+one-by-one [] = refl
+one-by-one (e ∷ es) = ap (λ (l : List ℕ). flatForm .cells e ++ l) (one-by-one es)
 
 places : (T : List Entry) → length (numbers T) / 4 ≡ length T
 places T = omega (arith, spread-length 4 fields (λ e. refl) T)
 
-module _ (f s : List ℕ) (st : State) (T : List Entry) where
+module _ (f : List ℕ) (n : ℕ) (s : List ℕ) (st : State) (T : List Entry) where
   module _ (filter : Filter) where
     abbrev o : Out ℕ ℕ
-    o = walkOf f filter s st (length T)
+    o = walkOf f filter n s st (length T)
 
     tables : st .used ≤ length T
         → over (numbers T) (4 * st .used) (flat (flatForm .cells) (o .entries)) ≡ numbers (over T (1 * st .used) (flat (entryForm .cells) (o .entries)))
     tables h =
-        let n = counts (asked f filter) (walked (asked f filter) (suc (length s)) (length T - st .used) (st .at) s) in
-        rw (laid (o .entries), one-mul (st .used))
+        let m = counts (asked f filter) (walked (asked f filter) n (length T - st .used) (st .at) s) in
+        rw (one-by-one (o .entries), one-mul (st .used))
         (spread-over 4 fields (λ e. refl) T (st .used) (flat (entryForm .cells) (o .entries)) (omega (arith, flat-length 1 (entryForm .cells) (λ e. refl) (o .entries))))
 
-    walks-alike : st .used ≤ length T → ahead flatForm f filter s st (numbers T) ≡ flatOf (ahead entryForm f filter s st T)
+    walks-alike : st .used ≤ length T → ahead flatForm f filter n s st (numbers T) ≡ flatOf (ahead entryForm f filter n s st T)
     walks-alike h =
-        ahead-so flatForm flat-sound f filter s st (numbers T)
-        ∙ ap (λ (n : ℕ). shown (finish 4 (flatForm .cells) (numbers T) (st .used) (walkOf f filter s st n))) (places T)
-        ∙ ap (λ (l : List ℕ). shown (ended l (o .at) (st .used + length (o .entries)) (o .ends))) (tables h)
-        ∙ sym (ap flatOf (ahead-so entryForm entry-sound f filter s st T))
+        ahead-so flatForm flat-sound f filter n s st (numbers T)
+        ∙ ap (λ (k : ℕ). laid flatForm (numbers T) (st .used) (walkOf f filter n s st k)) (places T)
+        ∙ ap (λ (l : List ℕ). shown (length (o .entries)) (ended l (o .at) (st .used + length (o .entries)) (o .ends))) (tables h)
+        ∙ sym (ap flatOf (ahead-so entryForm entry-sound f filter n s st T))
 
-    checks-alike : checked flatForm f filter s st (numbers T) ≡ flatOf (checked entryForm f filter s st T)
+    checks-alike : checked flatForm f filter n s st (numbers T) ≡ flatOf (checked entryForm f filter n s st T)
     checks-alike = by (ltb (length T) (st .used)) refl
       where
-        then-long : st .used ≤ length T → (b : Bool) → ltb limit (st .at + length s) ≡ b → checked flatForm f filter s st (numbers T) ≡ flatOf (checked entryForm f filter s st T)
-        then-long h true e = too-long flatForm f s st (numbers T) filter (omega (arith, places T)) e ∙ sym (ap flatOf (too-long entryForm f s st T filter h e))
+        then-long : st .used ≤ length T → (b : Bool) → ltb limit (st .at + length s) ≡ b → checked flatForm f filter n s st (numbers T) ≡ flatOf (checked entryForm f filter n s st T)
+        then-long h true e = too-long flatForm f n s st (numbers T) filter (omega (arith, places T)) e ∙ sym (ap flatOf (too-long entryForm f n s st T filter h e))
         then-long h false e =
-            goes-ahead flatForm f s st (numbers T) filter (omega (arith, places T)) e
+            goes-ahead flatForm f n s st (numbers T) filter (omega (arith, places T)) e
             ∙ walks-alike h
-            ∙ sym (ap flatOf (goes-ahead entryForm f s st T filter h e))
+            ∙ sym (ap flatOf (goes-ahead entryForm f n s st T filter h e))
 
-        by : (b : Bool) → ltb (length T) (st .used) ≡ b → checked flatForm f filter s st (numbers T) ≡ flatOf (checked entryForm f filter s st T)
+        by : (b : Bool) → ltb (length T) (st .used) ≡ b → checked flatForm f filter n s st (numbers T) ≡ flatOf (checked entryForm f filter n s st T)
         by true e =
-            bad-state flatForm f s st (numbers T) filter (omega (arith, places T, ltb-true (length T) (st .used) e))
-            ∙ sym (ap flatOf (bad-state entryForm f s st T filter (ltb-true _ _ e)))
+            bad-state flatForm f n s st (numbers T) filter (omega (arith, places T, ltb-true (length T) (st .used) e))
+            ∙ sym (ap flatOf (bad-state entryForm f n s st T filter (ltb-true _ _ e)))
         by false e = then-long (ltb-false _ _ e) (ltb limit (st .at + length s)) refl
 
   -- ONE CALL: the flat call over the fields' numbers answers the same, and leaves the numbers of the table that this one leaves
-  pub same-call : outcome f s st (numbers T) ≡ flatOf (call entryForm f s st T)
+  pub same-call : outcome f n s st (numbers T) ≡ flatOf (call entryForm f n s st T)
   same-call = by (filterOf f) refl
     where
-      by : (v : FilterAns) → filterOf f ≡ v → outcome f s st (numbers T) ≡ flatOf (call entryForm f s st T)
+      by : (v : FilterAns) → filterOf f ≡ v → outcome f n s st (numbers T) ≡ flatOf (call entryForm f n s st T)
       by (FilterAns.Good filter) e =
-          good-filter flatForm f s st (numbers T) (filterOf f) filter refl e
+          good-filter flatForm f n s st (numbers T) (filterOf f) filter refl e
           ∙ checks-alike filter
-          ∙ sym (ap flatOf (good-filter entryForm f s st T (filterOf f) filter refl e))
+          ∙ sym (ap flatOf (good-filter entryForm f n s st T (filterOf f) filter refl e))
       by FilterAns.Bad e =
-          bad-filter flatForm f s st (numbers T) (filterOf f) refl e
-          ∙ sym (ap flatOf (bad-filter entryForm f s st T (filterOf f) refl e))
+          bad-filter flatForm f n s st (numbers T) (filterOf f) refl e
+          ∙ sym (ap flatOf (bad-filter entryForm f n s st T (filterOf f) refl e))
 
 -- ---- the sums
 
@@ -144,13 +144,13 @@ one-sum (suc n) [] = no-sum (suc n)
 one-sum (suc n) (e ∷ T) = ap (λ (k : ℕ). e .skipped + e .length + k) (one-sum n T)
 
 -- a call keeps the sum; so from a fresh state skipped bytes and lengths add up to the resume position
-pub sums : (f s : List ℕ) (st : State) (T : List Entry) → spanned (st .used) T ≡ st .at
-    → spanned (call entryForm f s st T .answer .state .used) (call entryForm f s st T .table) ≡ call entryForm f s st T .answer .state .at
-sums f s st T e =
-    sym (one-sum (call entryForm f s st T .answer .state .used) (call entryForm f s st T .table))
-    ∙ rw (same-call f s st T) at (of-numbers.sums f s st (numbers T) (one-sum (st .used) T ∙ e))
+pub sums : (f : List ℕ) (n : ℕ) (s : List ℕ) (st : State) (T : List Entry) → spanned (st .used) T ≡ st .at
+    → spanned (call entryForm f n s st T .answer .state .used) (call entryForm f n s st T .table) ≡ call entryForm f n s st T .answer .state .at
+sums f n s st T e =
+    sym (one-sum (call entryForm f n s st T .answer .state .used) (call entryForm f n s st T .table))
+    ∙ rw (same-call f n s st T) at (of-numbers.sums f n s st (numbers T) (one-sum (st .used) T ∙ e))
 
-pub sums-up : (f s : List ℕ) (T : List Entry)
-    → spanned (call entryForm f s fresh T .answer .state .used) (call entryForm f s fresh T .table) ≡ call entryForm f s fresh T .answer .state .at
+pub sums-up : (f : List ℕ) (n : ℕ) (s : List ℕ) (T : List Entry)
+    → spanned (call entryForm f n s fresh T .answer .state .used) (call entryForm f n s fresh T .table) ≡ call entryForm f n s fresh T .answer .state .at
 unfolding spanned
-sums-up f s T = sums f s fresh T refl
+sums-up f n s T = sums f n s fresh T refl

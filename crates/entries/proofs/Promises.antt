@@ -7,7 +7,7 @@ use native.Mathlib.Omega.{arith}
 use lib.ListN.{length, take, drop}
 use Rattle.walk.specs.Walk.{Ends}
 use Rattle.index.specs.Index.{limit, numberOf, endOf, refused, walkOf, call}
-use Rattle.index.specs.Calls.{over-trace, calls, joined}
+use Rattle.index.specs.Calls.{unlimited, whole, adding, next, over-trace, calls, joined, repeated, Above, total}
 use Rattle.index.specs.declared.State.{State}
 use Rattle.index.specs.declared.End.{End}
 use Rattle.index.proofs.Promises as any
@@ -23,41 +23,70 @@ no-refusal (Ends.Waits need) r = omega arith
 
 module _ (f : List ℕ) where
   -- a refusal (1, 5, 6) hands back the state that it was given, and changes no lent entry
-  pub refusals : (s : List ℕ) (st : State) (T : List Entry)
-      → (1 ≤ numberOf (call entryForm f s st T .answer .end)) × (numberOf (call entryForm f s st T .answer .end) ≤ 6)
-      → call entryForm f s st T ≡ refused st T (call entryForm f s st T .answer .end)
-  refusals s st T r = by (any.came entryForm entry-sound f s st T)
+  pub refusals : (n : ℕ) (s : List ℕ) (st : State) (T : List Entry)
+      → (1 ≤ numberOf (call entryForm f n s st T .answer .end)) × (numberOf (call entryForm f n s st T .answer .end) ≤ 6)
+      → call entryForm f n s st T ≡ refused st T (call entryForm f n s st T .answer .end)
+  refusals n s st T r = by (any.came entryForm entry-sound f n s st T)
     where
-      by : any.Came entryForm entry-sound f s st T → call entryForm f s st T ≡ refused st T (call entryForm f s st T .answer .end)
-      by (any.no e n q) = rw (q s)
-      by (any.long l q) = rw q
+      by : any.Came entryForm entry-sound f n s st T → call entryForm f n s st T ≡ refused st T (call entryForm f n s st T .answer .end)
+      by (any.no e a b q) = rw (q n s)
+      by (any.long l q) = rw (q n)
       by (any.yes filter h l g q) =
-          absurd (no-refusal (walkOf f filter s st (length T) .ends) (rw (q, any.ahead-so entryForm entry-sound f filter s st T) at r))
+          absurd (no-refusal (walkOf f filter n s st (length T) .ends) (rw (q n, any.ahead-so entryForm entry-sound f filter n s st T) at r))
 
   -- demand 3: two calls, with more bytes for the second; over a trace; and any number of calls
-  pub demand-3 : (s t : List ℕ) (st : State) (T : List Entry) → st .at + length (s ++ t) ≤ limit
-      → any.next entryForm entry-sound f (s ++ t) st (call entryForm f s st T) ≡ call entryForm f (s ++ t) st T
+  pub demand-3 : (n : ℕ) (s t : List ℕ) (st : State) (T : List Entry) → st .at + length (s ++ t) ≤ limit
+      → next entryForm f unlimited (s ++ t) st (call entryForm f n s st T) ≡ whole entryForm f (s ++ t) st T
   demand-3 = any.demand-3 entryForm entry-sound f
 
-  pub resumed : (old new t : List ℕ) (st : State) (T : List Entry) → st .at + length (drop (st .at) old ++ t) ≤ limit
-      → drop (over-trace entryForm f old st T .answer .state .at) new ≡ drop (over-trace entryForm f old st T .answer .state .at) old ++ t
-      → over-trace entryForm f new (over-trace entryForm f old st T .answer .state) (over-trace entryForm f old st T .table) ≡ call entryForm f (drop (st .at) old ++ t) st T
+  pub resumed : (n : ℕ) (old new t : List ℕ) (st : State) (T : List Entry) → st .at + length (drop (st .at) old ++ t) ≤ limit
+      → drop (over-trace entryForm f n old st T .answer .state .at) new ≡ drop (over-trace entryForm f n old st T .answer .state .at) old ++ t
+      → adding (over-trace entryForm f n old st T .answer .taken)
+      (over-trace entryForm f unlimited new (over-trace entryForm f n old st T .answer .state) (over-trace entryForm f n old st T .table))
+      ≡ whole entryForm f (drop (st .at) old ++ t) st T
   resumed = any.resumed entryForm entry-sound f
 
-  pub in-parts : (ts : List (List ℕ)) (s : List ℕ) (st : State) (T : List Entry) → st .at + length (s ++ joined ts) ≤ limit
-      → calls entryForm f s st T ts ≡ call entryForm f (s ++ joined ts) st T
+  pub in-parts : (ps : List (ℕ × List ℕ)) (s : List ℕ) (st : State) (T : List Entry) → st .at + length (s ++ joined ps) ≤ limit
+      → calls entryForm f s st T ps ≡ whole entryForm f (s ++ joined ps) st T
   in-parts = any.in-parts entryForm entry-sound f
 
+  -- limits: calls until an answer isn't Paused; a loop that is cancelled and goes on later; a limit that is none; the number taken; a limit of 0
+  pub in-portions : (ns : List ℕ) (s : List ℕ) (st : State) (T : List Entry) → repeated entryForm f s st T ns ≡ call entryForm f (total ns) s st T
+  in-portions = any.in-portions entryForm entry-sound f
+
+  pub repeated-calls : (ns : List ℕ) (s : List ℕ) (st : State) (T : List Entry) → Above ns → length s < length ns → repeated entryForm f s st T ns ≡ whole entryForm f s st T
+  repeated-calls = any.repeated-calls entryForm entry-sound f
+
+  pub cancelled : (ns ms ks : List ℕ) (old new t : List ℕ) (st : State) (T : List Entry) → st .at + length (drop (st .at) old ++ t) ≤ limit
+      → drop (repeated entryForm f (drop (st .at) old) st T ns .answer .state .at) new ≡ drop (repeated entryForm f (drop (st .at) old) st T ns .answer .state .at) old ++ t
+      → Above ms → length (drop (repeated entryForm f (drop (st .at) old) st T ns .answer .state .at) new) < length ms
+      → Above ks → length (drop (st .at) old ++ t) < length ks
+      → adding (repeated entryForm f (drop (st .at) old) st T ns .answer .taken)
+      (repeated entryForm f (drop (repeated entryForm f (drop (st .at) old) st T ns .answer .state .at) new)
+      (repeated entryForm f (drop (st .at) old) st T ns .answer .state) (repeated entryForm f (drop (st .at) old) st T ns .table) ms)
+      ≡ repeated entryForm f (drop (st .at) old ++ t) st T ks
+  cancelled = any.cancelled entryForm entry-sound f
+
+  pub no-limit : (n : ℕ) (s : List ℕ) (st : State) (T : List Entry) → length s < n → call entryForm f n s st T ≡ whole entryForm f s st T
+  no-limit = any.no-limit entryForm entry-sound f
+
+  pub counted : (n : ℕ) (s : List ℕ) (st : State) (T : List Entry) → call entryForm f n s st T .answer .state .used ≡ st .used + call entryForm f n s st T .answer .taken
+  counted = any.counted entryForm entry-sound f
+
+  pub zero-keeps : (s : List ℕ) (st : State) (T : List Entry) → call entryForm f 0 s st T ≡ refused st T (call entryForm f 0 s st T .answer .end)
+  zero-keeps = any.zero-keeps entryForm entry-sound f
+
   -- what a need is for
-  pub still-waits : (s t : List ℕ) (st : State) (T : List Entry) (n : ℕ) → st .at + length (s ++ t) ≤ limit → call entryForm f s st T .answer .end ≡ End.Waits n → length t < n
+  pub still-waits : (n : ℕ) (s t : List ℕ) (st : State) (T : List Entry) (v : ℕ) → st .at + length (s ++ t) ≤ limit → call entryForm f n s st T .answer .end ≡ End.Waits v → length t < v
       → (u : ℕ)
-      × (call entryForm f (s ++ t) st T ≡ record { answer = record { state = call entryForm f s st T .answer .state; end = End.Waits u }; table = call entryForm f s st T .table })
+      × (call entryForm f n (s ++ t) st T
+      ≡ record { answer = record { state = call entryForm f n s st T .answer .state; taken = call entryForm f n s st T .answer .taken; end = End.Waits u }; table = call entryForm f n s st T .table })
   still-waits = any.still-waits entryForm entry-sound f
 
   -- entries that were written stay, and so do those beyond the ones used
-  pub kept-before : (s : List ℕ) (st : State) (T : List Entry) → take (st .used) (call entryForm f s st T .table) ≡ take (st .used) T
-  kept-before s st T = rw one-mul at (any.kept-before entryForm entry-sound f s st T)
+  pub kept-before : (n : ℕ) (s : List ℕ) (st : State) (T : List Entry) → take (st .used) (call entryForm f n s st T .table) ≡ take (st .used) T
+  kept-before n s st T = rw one-mul at (any.kept-before entryForm entry-sound f n s st T)
 
-  pub kept-behind : (s : List ℕ) (st : State) (T : List Entry)
-      → drop (call entryForm f s st T .answer .state .used) (call entryForm f s st T .table) ≡ drop (call entryForm f s st T .answer .state .used) T
-  kept-behind s st T = rw one-mul at (any.kept-behind entryForm entry-sound f s st T)
+  pub kept-behind : (n : ℕ) (s : List ℕ) (st : State) (T : List Entry)
+      → drop (call entryForm f n s st T .answer .state .used) (call entryForm f n s st T .table) ≡ drop (call entryForm f n s st T .answer .state .used) T
+  kept-behind n s st T = rw one-mul at (any.kept-behind entryForm entry-sound f n s st T)

@@ -8,7 +8,7 @@ ghost use lib.ListN.{length, drop};
 ghost use Rattle.step.specs.Step.{asked};
 ghost use Rattle.index.specs.Index.{limit, call};
 ghost use Rattle.entries.specs.Form.{entryForm};
-ghost use Rattle.entries.specs.Turn.{stopOf, turnOf, firstOf, nextOf, Apt};
+ghost use Rattle.entries.specs.Turn.{stopOf, writeOf, turnOf, firstOf, nextOf, Apt};
 use filter::Filter;
 use filter::FilterAns;
 use headertype::OptRange;
@@ -27,7 +27,8 @@ pub struct Entry {
 }
 
 // One turn of the call. Where `go` is true, `entry` is due at `place`. Where it is false, `answer` is the call's answer. These four the loop reads;
-// the others only `next` does: how far the bytes are passed with the entry, the resume position given, the table's places, the filter.
+// the others only `next` does: how far the bytes are passed with the entry, the resume position given, the table's places, the filter, and how many
+// entries the call may take.
 pub struct Turn {
     pub go: bool,
     pub place: usize,
@@ -37,11 +38,12 @@ pub struct Turn {
     pub from: usize,
     pub cap: usize,
     pub filter: Filter,
+    pub most: usize,
 }
 
 // The call ends, with this answer.
-fn stop(state: State, end: End) -> Turn
-    ensures { λ r. ⌜ r ≡ stopOf state end ⌝ }
+fn stop(state: State, taken: usize, end: End) -> Turn
+    ensures { λ r. ⌜ r ≡ stopOf state taken end ⌝ }
 {
     Turn {
         go: false,
@@ -52,7 +54,7 @@ fn stop(state: State, end: End) -> Turn
             length: 0,
             kind: 0,
         },
-        answer: Indexed { state, end },
+        answer: Indexed { state, taken, end },
         at: 0,
         from: 0,
         cap: 0,
@@ -64,61 +66,97 @@ fn stop(state: State, end: End) -> Turn
             app_id_count: 0,
             context_id_count: 0,
         },
+        most: 0,
     }
 }
 
-// What is due past `at` of the bytes, with `used` entries in the table.
-fn due(s: &[u8], f: &[u8], filter: Filter, from: usize, cap: usize, used: usize, at: usize) -> Turn
+// An entry is due at the first free place, and the next turn is past it.
+fn write(
+    filter: Filter,
+    from: usize,
+    cap: usize,
+    used: usize,
+    at: usize,
+    most: usize,
+    taken: usize,
+    skipped: usize,
+    len: usize,
+    kind: u64,
+) -> Turn
+    requires { ⌜ from + (at + (skipped + len)) ≤ limit ⌝ }
+    ensures { λ r. ⌜ r ≡ writeOf filter from cap used at most taken skipped len kind ⌝ }
+{
+    let here = from + at;
+    let start = here + skipped;
+    let state = State { at: here, used };
+    Turn {
+        go: true,
+        place: used,
+        entry: Entry {
+            start: start as u64,
+            skipped: skipped as u64,
+            length: len as u64,
+            kind,
+        },
+        answer: Indexed {
+            state,
+            taken,
+            end: End::Full,
+        },
+        at: at + (skipped + len),
+        from,
+        cap,
+        filter,
+        most,
+    }
+}
+
+// What is due past `at` of the bytes, with `used` entries in the table, of which this call wrote `taken` and may write `most`.
+fn due(
+    s: &[u8],
+    f: &[u8],
+    filter: Filter,
+    from: usize,
+    cap: usize,
+    used: usize,
+    at: usize,
+    most: usize,
+    taken: usize,
+) -> Turn
     requires { ⌜ (at ≤ length (now s)) × (from + length (now s) ≤ limit) ⌝ }
-    ensures { λ r. ⌜ r ≡ turnOf filter from cap used at (asked (now (f .entry)) filter (drop at (now (s .entry)))) ⌝ }
+    ensures { λ r. ⌜ r ≡ turnOf filter from cap used at most taken (asked (now (f .entry)) filter (drop at (now (s .entry)))) ⌝ }
 {
     let here = from + at;
     let state = State { at: here, used };
+    if most <= taken {
+        return stop(state, taken, End::Paused);
+    }
     match step::ask(&s[at..], f, filter) {
-        Heard::Wait(need) => stop(state, End::Waits(need)),
+        Heard::Wait(need) => stop(state, taken, End::Waits(need)),
         Heard::Take { skipped, len, kind } => {
             if cap <= used {
-                return stop(state, End::Full);
+                return stop(state, taken, End::Full);
             }
-            let start = here + skipped;
-            let past = at + (skipped + len);
-            Turn {
-                go: true,
-                place: used,
-                entry: Entry {
-                    start: start as u64,
-                    skipped: skipped as u64,
-                    length: len as u64,
-                    kind,
-                },
-                answer: Indexed {
-                    state,
-                    end: End::Full,
-                },
-                at: past,
-                from,
-                cap,
-                filter,
-            }
+            write(filter, from, cap, used, at, most, taken, skipped, len, kind)
         }
     }
 }
 
-// The first turn of a call with a table of `cap` places: the refusals in their order, and then what is due.
-fn first(s: &[u8], f: &[u8], state: State, cap: usize) -> Turn
-    ensures { λ r. ⌜ r ≡ firstOf (now (f .entry)) (now (s .entry)) state cap ⌝ }
+// The first turn of a call with a table of `cap` places, which may take n entries: the refusals in their order, and then what is due.
+fn first(s: &[u8], f: &[u8], state: State, cap: usize, n: usize) -> Turn
+    ensures { λ r. ⌜ r ≡ firstOf (now (f .entry)) (now (s .entry)) state cap n ⌝ }
 {
     match filter::read_filter(f) {
         FilterAns::Good(filter) => {
             if cap < state.used {
-                return stop(state, End::BadState);
+                return stop(state, 0, End::BadState);
             }
             if index::too_long(state.at, s.len()) {
-                return stop(state, End::TooLong);
+                return stop(state, 0, End::TooLong);
             }
-            due(s, f, filter, state.at, cap, state.used, 0)
+            due(s, f, filter, state.at, cap, state.used, 0, n, 0)
         }
-        FilterAns::Bad => stop(state, End::BadFilter),
+        FilterAns::Bad => stop(state, 0, End::BadFilter),
     }
 }
 
@@ -128,14 +166,24 @@ fn next(s: &[u8], f: &[u8], t: Turn) -> Turn
     ensures { λ r. ⌜ r ≡ nextOf (now (f .entry)) (now (s .entry)) t ⌝ }
 {
     let filter = t.filter;
-    due(s, f, filter, t.from, t.cap, t.place + 1, t.at)
+    due(
+        s,
+        f,
+        filter,
+        t.from,
+        t.cap,
+        t.place + 1,
+        t.at,
+        t.most,
+        t.answer.taken + 1,
+    )
 }
 
-// The index call. `s` is given from the resume position on.
-pub fn index_entries(s: &[u8], f: &[u8], state: State, table: &mut [Entry]) -> Indexed
-    ensures { λ r. ⌜ call entryForm (now (f .entry)) (now (s .entry)) state (now (table .entry)) ≡ record { answer = r; table = now (table .exit) } ⌝ }
+// The index call. `s` is given from the resume position on. After n entries it stops without looking further; the largest usize is no limit.
+pub fn index_entries(s: &[u8], f: &[u8], state: State, table: &mut [Entry], n: usize) -> Indexed
+    ensures { λ r. ⌜ call entryForm (now (f .entry)) n (now (s .entry)) state (now (table .entry)) ≡ record { answer = r; table = now (table .exit) } ⌝ }
 {
-    let mut t = first(s, f, state, table.len());
+    let mut t = first(s, f, state, table.len(), n);
     while t.go {
         table[t.place] = t.entry;
         t = next(s, f, t);

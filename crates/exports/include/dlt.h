@@ -20,6 +20,7 @@
 #define DLT_BAD_STATE 5
 #define DLT_TOO_LONG 6
 #define DLT_FULL 7
+#define DLT_PAUSED 8
 #define DLT_SHORT_OUT 15
 
 typedef struct {
@@ -99,23 +100,27 @@ dlt_answer dlt_construct_arguments(bool big, const uint32_t *words, size_t words
 /* One of them by its cursor (`at`, `word`, `big`), from (0, 0, big) on, as dlt_argument. */
 dlt_answer dlt_signal(const uint32_t *words, size_t words_len, const uint8_t *data, size_t data_len, size_t at, size_t word, bool big, uint64_t *out, size_t out_len);
 
-/* The index call's answer: DLT_DONE where the walk waits, with the need (0: unknown), or DLT_FULL, and the state so far; or DLT_BAD_FILTER,
-   DLT_BAD_STATE, DLT_TOO_LONG with the state that was given, and then the table is as it was. */
+/* The index call's answer: DLT_DONE where the walk waits, with the need (0: unknown), or DLT_FULL, or DLT_PAUSED where n entries were taken, and the
+   state so far; or DLT_BAD_FILTER, DLT_BAD_STATE, DLT_TOO_LONG with the state that was given, and then the table is as it was. `taken` is how many
+   entries this call wrote. */
 typedef struct {
     uint64_t number;
     uint64_t need;
     uint64_t at;
     uint64_t used;
+    uint64_t taken;
 } dlt_index_answer;
 
 /* The trace index. `s` is the bytes from the resume position `at` on; the table has DLT_ENTRY_SIZE numbers to an entry, of which `used` are used.
    A fresh state is 0 and 0. After a call the bytes before the new `at` are the caller's; those from there on must come again, unchanged, with what was
-   added at the end. */
+   added at the end. After `n` entries the call stops without looking further, with DLT_PAUSED; n of 0 does nothing but check; SIZE_MAX is no limit.
+   Calls with n above 0, each with the bytes from the new `at` on, until the answer isn't DLT_PAUSED, end as one call without a limit, and what they
+   took adds up. Between two of them is the place to cancel. */
 #define DLT_ENTRY_SIZE 4
 #define DLT_ENTRY_START 0               /* of the pattern, counted from the trace's beginning */
 #define DLT_ENTRY_SKIPPED 1             /* bytes before it */
 #define DLT_ENTRY_LENGTH 2              /* 16 plus declared, or 4 */
 #define DLT_ENTRY_KIND 3                /* 0 item, 1 filtered, 2 hickup, 3 unrecoverable */
-dlt_index_answer dlt_index(const uint8_t *s, size_t s_len, const uint8_t *f, size_t f_len, size_t at, size_t used, uint64_t *table, size_t table_len);
+dlt_index_answer dlt_index(const uint8_t *s, size_t s_len, const uint8_t *f, size_t f_len, size_t at, size_t used, uint64_t *table, size_t table_len, size_t n);
 
 #endif

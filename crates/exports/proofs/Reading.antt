@@ -225,9 +225,9 @@ module _ (a : Answer) (r : ConstructAns) (x : Ans ℕ) (d : constructAns r ≡ x
   construct-hickup n q e = e ∙ ap constructAnswer (ap constructAns (sym q) ∙ d)
 
 -- ---- dlt_index: r is what the call answered, X the table that it left
-module _ (f s T X : List ℕ) (at used : ℕ) (r : Indexed) (n m : ℕ) where
-  pub index-told : outcome f s (record { at = at; used = used }) T ≡ record { answer = r; table = X } → n ≡ numberOf (r .end) → m ≡ needOf (r .end)
-      → indexCall f s at used T ≡ record { answer = record { number = n; need = m; at = r .state .at; used = r .state .used }; table = X }
+module _ (f s T X : List ℕ) (n at used : ℕ) (r : Indexed) (k m : ℕ) where
+  pub index-told : outcome f n s (record { at = at; used = used }) T ≡ record { answer = r; table = X } → k ≡ numberOf (r .end) → m ≡ needOf (r .end)
+      → indexCall f n s at used T ≡ record { answer = record { number = k; need = m; at = r .state .at; used = r .state .used; taken = r .taken }; table = X }
   unfolding indexCall indexShown
   index-told e p q = rw (e, p, q)
 

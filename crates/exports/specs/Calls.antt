@@ -72,19 +72,19 @@ signalShown T broken = told 4 0 0 T
 unfoldable pub signalCall : List ℕ → SignalCursor → List ℕ → List ℕ → Outcome
 signalCall words c s T = pick (leb argumentSize (length T)) (signalShown T (signalTurn words c s (c .at))) (short argumentSize T)
 
--- ---- dlt_index: document 01's number, the need, the state behind the call; and the table as it leaves it
+-- ---- dlt_index: document 01's number, the need, the state behind the call, the number taken; and the table as it leaves it
 pub record IndexOutcome : Type 0 where
   pub answer : IndexAnswer
   pub table : List ℕ
 
 unfoldable pub indexShown : index.Outcome ℕ → IndexOutcome
 indexShown o = record {
-  answer = record { number = numberOf (o .answer .end); need = needOf (o .answer .end); at = o .answer .state .at; used = o .answer .state .used };
+  answer = record { number = numberOf (o .answer .end); need = needOf (o .answer .end); at = o .answer .state .at; used = o .answer .state .used; taken = o .answer .taken };
   table = o .table;
 }
 
-unfoldable pub indexCall : List ℕ → List ℕ → ℕ → ℕ → List ℕ → IndexOutcome
-indexCall f s at used T = indexShown (outcome f s (record { at = at; used = used }) T)
+unfoldable pub indexCall : List ℕ → ℕ → List ℕ → ℕ → ℕ → List ℕ → IndexOutcome
+indexCall f n s at used T = indexShown (outcome f n s (record { at = at; used = used }) T)
 
 -- ---- the calls that are lent nothing to write into
 -- dlt_forward_to_next_storage_header: value 1 and the place, or 0

@@ -59,21 +59,21 @@ laid T u es h =
     omega (arith, split u (length es) (p ++ (v ++ X)))
 
 -- a call keeps the sum
-pub sums : (f s : List ℕ) (st : State) (T : List ℕ) → totals (st .used) T ≡ st .at
-    → totals (outcome f s st T .answer .state .used) (outcome f s st T .table) ≡ outcome f s st T .answer .state .at
-sums f s st T e = by (came flatForm flat-sound f s st T)
+pub sums : (f : List ℕ) (n : ℕ) (s : List ℕ) (st : State) (T : List ℕ) → totals (st .used) T ≡ st .at
+    → totals (outcome f n s st T .answer .state .used) (outcome f n s st T .table) ≡ outcome f n s st T .answer .state .at
+sums f n s st T e = by (came flatForm flat-sound f n s st T)
   where
-    by : Came flatForm flat-sound f s st T → totals (outcome f s st T .answer .state .used) (outcome f s st T .table) ≡ outcome f s st T .answer .state .at
-    by (no z n q) = rw (q s) e
-    by (long l q) = rw q e
+    by : Came flatForm flat-sound f n s st T → totals (outcome f n s st T .answer .state .used) (outcome f n s st T .table) ≡ outcome f n s st T .answer .state .at
+    by (no z a b q) = rw (q n s) e
+    by (long l q) = rw (q n) e
     by (yes filter h l g q) =
-        let o = walkOf f filter s st (length T / 4) in
-        rw (q, ahead-so flatForm flat-sound f filter s st T)
+        let o = walkOf f filter n s st (length T / 4) in
+        rw (q n, ahead-so flatForm flat-sound f filter n s st T)
         (laid T (st .used) (o .entries) (omega arith)
-        ∙ ap (λ (n : ℕ). n + spans (o .entries)) e
-        ∙ adds-up (asked f filter) (walked (asked f filter) (suc (length s)) (length T / 4 - st .used) (st .at) s))
+        ∙ ap (λ (m : ℕ). m + spans (o .entries)) e
+        ∙ adds-up (asked f filter) (walked (asked f filter) n (length T / 4 - st .used) (st .at) s))
 
 -- from a fresh state
-pub sums-up : (f s T : List ℕ) → totals (outcome f s fresh T .answer .state .used) (outcome f s fresh T .table) ≡ outcome f s fresh T .answer .state .at
+pub sums-up : (f : List ℕ) (n : ℕ) (s T : List ℕ) → totals (outcome f n s fresh T .answer .state .used) (outcome f n s fresh T .table) ≡ outcome f n s fresh T .answer .state .at
 unfolding totals
-sums-up f s T = sums f s fresh T refl
+sums-up f n s T = sums f n s fresh T refl

@@ -12,56 +12,85 @@ use lib.Dec.{ltb}
 use borrow.Author.Tests.{lt-ltb, le-ltb, ltb-true, ltb-false}
 use Rattle.table.specs.Over.{over}
 use Rattle.table.proofs.Laws.{stores}
-use Rattle.walk.specs.Table.{Done}
-use Rattle.walk.proofs.Going.{here, Going}
+use Rattle.walk.specs.Walk.{Ends, Take, entry}
+use Rattle.walk.specs.Table.{Done, finish}
+use Rattle.walk.proofs.Going.{here, ended, Going, goes-on}
 use Rattle.filter.specs.Filter.{filterOf}
 use Rattle.filter.specs.declared.Filter.{Filter}
 use Rattle.filter.specs.declared.FilterAns.{FilterAns}
 use Rattle.step.specs.Step.{asked}
-use Rattle.index.specs.Index.{limit, Form, Outcome, refused, shown, ahead, checked, judged, call}
+use Rattle.step.proofs.Fair.{fair}
+use Rattle.index.specs.Index.{limit, Form, Sound, Outcome, stopped, refused, endOf, shown, walkOf, ahead, checked, judged, call}
 use Rattle.index.specs.declared.State.{State}
 use Rattle.index.specs.declared.End.{End}
 use Rattle.index.specs.declared.Indexed.{Indexed}
 
 -- ---- the cases of a call
-module _ {A : Type 0} (form : Form A) (f s : List ℕ) (st : State) (T : List A) where
-  pub bad-filter : (v : FilterAns) → v ≡ filterOf f → v ≡ FilterAns.Bad → call form f s st T ≡ refused st T End.BadFilter
+module _ {A : Type 0} (form : Form A) (f : List ℕ) (n : ℕ) (s : List ℕ) (st : State) (T : List A) where
+  pub bad-filter : (v : FilterAns) → v ≡ filterOf f → v ≡ FilterAns.Bad → call form f n s st T ≡ refused st T End.BadFilter
   unfolding call judged
   bad-filter v e q = rw (sym e ∙ q)
 
-  pub good-filter : (v : FilterAns) (filter : Filter) → v ≡ filterOf f → v ≡ FilterAns.Good filter → call form f s st T ≡ checked form f filter s st T
+  pub good-filter : (v : FilterAns) (filter : Filter) → v ≡ filterOf f → v ≡ FilterAns.Good filter → call form f n s st T ≡ checked form f filter n s st T
   unfolding call judged
   good-filter v filter e q = rw (sym e ∙ q)
 
   module _ (filter : Filter) where
-    pub bad-state : form .holds (length T) < st .used → checked form f filter s st T ≡ refused st T End.BadState
+    pub bad-state : form .holds (length T) < st .used → checked form f filter n s st T ≡ refused st T End.BadState
     unfolding checked
     bad-state h = simp (lt-ltb _ _ h)
 
-    pub too-long : st .used ≤ form .holds (length T) → ltb limit (st .at + length s) ≡ true → checked form f filter s st T ≡ refused st T End.TooLong
+    pub too-long : st .used ≤ form .holds (length T) → ltb limit (st .at + length s) ≡ true → checked form f filter n s st T ≡ refused st T End.TooLong
     unfolding checked
     too-long h g = simp (le-ltb _ _ h, g)
 
-    pub goes-ahead : st .used ≤ form .holds (length T) → ltb limit (st .at + length s) ≡ false → checked form f filter s st T ≡ ahead form f filter s st T
+    pub goes-ahead : st .used ≤ form .holds (length T) → ltb limit (st .at + length s) ≡ false → checked form f filter n s st T ≡ ahead form f filter n s st T
     unfolding checked
     goes-ahead h g = simp (le-ltb _ _ h, g)
 
-    pub ahead-is : ahead form f filter s st T ≡ shown (here (asked f filter) (form .width) (form .cells) s (form .holds (length T)) (st .at) (suc (length s)) T (st .used) 0)
+    -- where the walk's loop stops
+    pub ends-so : {T′ : List A} {pos used taken : ℕ} {e : Ends ℕ}
+        → here (asked f filter) (form .width) (form .cells) s (form .holds (length T)) (st .at) n T (st .used) 0 ≡ ended T′ pos used e → used ≡ st .used + taken
+        → ahead form f filter n s st T ≡ record { answer = stopped pos used taken (endOf e); table = T′ }
     unfolding ahead here
-    ahead-is = simp add-zero
+    ends-so {taken = taken} p counted =
+        let o = walkOf f filter n s st (form .holds (length T)) in
+        let q = rw add-zero at p in
+        let many : length (o .entries) ≡ taken = omega (arith, ap (λ (d : Done ℕ A). d .used) q) in
+        ap (λ (k : ℕ). shown k (finish (form .width) (form .cells) T (st .used) o)) many ∙ ap (shown taken) q
 
 -- the answer that a call built
 pub with-answer : {A : Type 0} (T : List A) {r a : Indexed} → r ≡ a → _≡_ {A = Outcome A} (record { answer = a; table = T }) (record { answer = r; table = T })
 with-answer T e = rw e
 
--- ---- the loop's invariant, at this rule and a form
-abbrev pub Kept : {A : Type 0} → Form A → List ℕ → Filter → List ℕ → ℕ → ℕ → List A → ℕ → List A → ℕ → ℕ → Type 0
-Kept form f filter s size from T₀ used₀ T used at =
-    Going (asked f filter) (form .width) (form .cells) s size from (suc (length s)) T₀ used₀ (suc (length s - at)) T used at
+-- ---- the loop's invariant, at this rule and a form: the turns to go are n less those taken
+pub record Kept {A : Type 0} (form : Form A) (f : List ℕ) (filter : Filter) (n : ℕ) (s : List ℕ) (size from : ℕ) (T₀ : List A) (used₀ : ℕ) (T : List A) (used at taken : ℕ) : Type 0 where
+  pub going : Going (asked f filter) (form .width) (form .cells) s size from n T₀ used₀ (n - taken) T used at
+  pub counted : used ≡ used₀ + taken
 
-pub starts : {A : Type 0} (form : Form A) (f : List ℕ) (filter : Filter) (s : List ℕ) (size from : ℕ) (T : List A) (used : ℕ) → used ≤ size
-    → Kept form f filter s size from T used T used 0
-starts form f filter s size from T used h = rw sub-zero (record { within = omega arith; room = h; as-long = refl; same = refl })
+module _ {A : Type 0} (form : Form A) (f : List ℕ) (filter : Filter) (n : ℕ) (s : List ℕ) (size from : ℕ) (T₀ : List A) (used₀ : ℕ) where
+  pub starts : used₀ ≤ size → Kept form f filter n s size from T₀ used₀ T₀ used₀ 0 0
+  starts h = record {
+    going = rw sub-zero (record { within = omega arith; room = h; as-long = refl; same = refl });
+    counted = omega arith;
+  }
+
+  module _ {T : List A} {used at taken : ℕ} (kept : Kept form f filter n s size from T₀ used₀ T used at taken) where
+    -- a turn is to go, or none
+    pub turns : taken < n → Going (asked f filter) (form .width) (form .cells) s size from n T₀ used₀ (suc (n - (taken + 1))) T used at
+    turns h = let e : n - taken ≡ suc (n - (taken + 1)) = omega arith in rw e at (kept .going)
+
+    pub no-turn : n ≤ taken → Going (asked f filter) (form .width) (form .cells) s size from n T₀ used₀ 0 T used at
+    no-turn h = let e : n - taken ≡ 0 = omega arith in rw e at (kept .going)
+
+    -- a turn is done
+    pub turned : Sound form → {k l i : ℕ} → taken < n → asked f filter (drop at s) ≡ Take k l i → used < size → form .width * size ≤ length T₀
+        → (T′ : List A) → T′ ≡ over T (form .width * used) (form .cells (entry (from + at) k l i))
+        → Kept form f filter n s size from T₀ used₀ T′ (used + 1) (at + (k + l)) (taken + 1)
+    turned sound h e g b T′ p = record {
+      going = goes-on (form .width) (form .cells) (sound .wide) (asked f filter) (fair f filter) s size from n T₀ used₀ (turns h) e g b T′ p;
+      counted = omega (arith, kept .counted);
+    }
 
 -- four stores
 pub put-over : (T : List ℕ) (u a b c d : ℕ) → 4 * u + 4 ≤ length T

@@ -1,28 +1,72 @@
--- Calls one after another: what demand 3 says.
-use Prim.Native.Nat.{ℕ, zero, suc, _+_, _-_}
+-- Calls one after another: what demand 3 says, and what it says of calls that stop after so many entries.
+use Prim.Native.Nat.{ℕ, zero, suc, _+_, _-_, _<_}
 use mathlib.Core.List.{List, [], _∷_, _++_}
-use lib.ListN.{length, getD, drop}
+use lib.ListN.{getD, drop}
 use Rattle.index.specs.Index.{Form, Outcome, call}
 use Rattle.index.specs.declared.State.{State}
+use Rattle.index.specs.declared.End.{End}
 
 abbrev pub fresh : State
 fresh = record { at = 0; used = 0 }
 
--- a call over a trace: it is given the bytes from the state's resume position on
-abbrev pub over-trace : {A : Type 0} → Form A → List ℕ → List ℕ → State → List A → Outcome A
-over-trace form f trace st T = call form f (drop (st .at) trace) st T
+-- without a limit: the largest number that a call can be given. No call takes so many bytes, and an entry takes at least one
+abbrev pub unlimited : ℕ
+unlimited = 18446744073709551615
 
--- a call over s, and then, for each of the parts, a call with that part added at the end of what is left
-unfoldable pub calls : {A : Type 0} → Form A → List ℕ → List ℕ → State → List A → List (List ℕ) → Outcome A
-calls form f s st T [] = call form f s st T
-calls form f s st T (t ∷ ts) =
-    let a = call form f s st T in
-    calls form f (drop (a .answer .state .at - st .at) s ++ t) (a .answer .state) (a .table) ts
+abbrev pub whole : {A : Type 0} → Form A → List ℕ → List ℕ → State → List A → Outcome A
+whole form f s st T = call form f unlimited s st T
+
+-- The number taken is each call's own: of calls in a row it is added up. All else is the last call's
+abbrev pub adding : {A : Type 0} → ℕ → Outcome A → Outcome A
+adding k o = record { answer = record { state = o .answer .state; taken = k + o .answer .taken; end = o .answer .end }; table = o .table }
+
+-- the next call: the state and the table that the last one left, and the bytes s, of which the first stands at st's resume position, from the new one on
+abbrev pub next : {A : Type 0} → Form A → List ℕ → ℕ → List ℕ → State → Outcome A → Outcome A
+next form f n s st a = adding (a .answer .taken) (call form f n (drop (a .answer .state .at - st .at) s) (a .answer .state) (a .table))
+
+-- a call over a trace: it is given the bytes from the state's resume position on
+abbrev pub over-trace : {A : Type 0} → Form A → List ℕ → ℕ → List ℕ → State → List A → Outcome A
+over-trace form f n trace st T = call form f n (drop (st .at) trace) st T
+
+-- A call over s, and then, for each of the parts, a call with that part added at the end of what is left. Each call but the last may have a limit, which
+-- stands with the part that comes after it
+unfoldable pub calls : {A : Type 0} → Form A → List ℕ → List ℕ → State → List A → List (ℕ × List ℕ) → Outcome A
+calls form f s st T [] = whole form f s st T
+calls form f s st T (p ∷ ps) =
+    let a = call form f (p .0) s st T in
+    adding (a .answer .taken) (calls form f (drop (a .answer .state .at - st .at) s ++ p .1) (a .answer .state) (a .table) ps)
 
 -- all the parts
-abbrev pub joined : List (List ℕ) → List ℕ
+abbrev pub joined : List (ℕ × List ℕ) → List ℕ
 joined [] = []
-joined (t ∷ ts) = t ++ joined ts
+joined (p ∷ ps) = p .1 ++ joined ps
+
+-- what comes after an answer that is Paused; any other is the end
+abbrev pub unless-paused : {X : Type 0} → End → X → X → X
+unless-paused End.Paused a more = more
+unless-paused End.BadFilter a more = a
+unless-paused End.BadState a more = a
+unless-paused End.TooLong a more = a
+unless-paused End.Full a more = a
+unless-paused (End.Waits need) a more = a
+
+-- THE HOST'S LOOP: calls that stop after so many entries each, over the same bytes, until an answer isn't Paused. Where the limits end first the loop is
+-- cancelled: what it leaves is what a call that stops at once leaves
+unfoldable pub repeated : {A : Type 0} → Form A → List ℕ → List ℕ → State → List A → List ℕ → Outcome A
+repeated form f s st T [] = call form f 0 s st T
+repeated form f s st T (n ∷ ns) =
+    let a = call form f n s st T in
+    unless-paused (a .answer .end) a
+    (adding (a .answer .taken) (repeated form f (drop (a .answer .state .at - st .at) s) (a .answer .state) (a .table) ns))
+
+-- each limit is above 0
+abbrev pub Above : List ℕ → Type 0
+Above [] = Unit {0}
+Above (n ∷ ns) = (0 < n) × Above ns
+
+abbrev pub total : List ℕ → ℕ
+total [] = 0
+total (n ∷ ns) = n + total ns
 
 -- bytes skipped and lengths over the first n entries of a flat table
 unfoldable pub totals : ℕ → List ℕ → ℕ

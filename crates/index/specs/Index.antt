@@ -1,4 +1,5 @@
--- Document 01, "The trace index": the call. The refusals in their order, and then the walk, laid down in the table.
+-- Document 01, "The trace index": the call. The refusals in their order, and then the walk, laid down in the table. It stops after n entries, if it
+-- doesn't end before.
 use Prim.Native.Nat.{ℕ, _+_, _*_, _/_, _≤_}
 use mathlib.Core.Path.{_≡_}
 use mathlib.Core.List.{List, [], _∷_}
@@ -40,6 +41,7 @@ numberOf End.BadFilter = 1
 numberOf End.BadState = 5
 numberOf End.TooLong = 6
 numberOf End.Full = 7
+numberOf End.Paused = 8
 numberOf (End.Waits need) = 0
 
 abbrev pub needOf : End → ℕ
@@ -47,11 +49,12 @@ needOf End.BadFilter = 0
 needOf End.BadState = 0
 needOf End.TooLong = 0
 needOf End.Full = 0
+needOf End.Paused = 0
 needOf (End.Waits need) = need
 
--- the call's answer for the walk's: with no limit Paused is never said, so what stands there is of no account
+-- the call's answer for the walk's
 abbrev pub endOf : Ends ℕ → End
-endOf Ends.Paused = End.Full
+endOf Ends.Paused = End.Paused
 endOf Ends.Full = End.Full
 endOf (Ends.Waits need) = End.Waits need
 
@@ -60,40 +63,44 @@ pub record Outcome (A : Type 0) : Type 0 where
   pub answer : Indexed
   pub table : List A
 
--- where a walk stops
-abbrev pub stopped : ℕ → ℕ → End → Indexed
-stopped at used e = record { state = record { at = at; used = used }; end = e }
+-- where a walk stops, with so many entries taken in this call
+abbrev pub stopped : ℕ → ℕ → ℕ → End → Indexed
+stopped at used taken e = record { state = record { at = at; used = used }; taken = taken; end = e }
 
-abbrev pub shown : {A : Type 0} → Done ℕ A → Outcome A
-shown d = record { answer = stopped (d .at) (d .used) (endOf (d .ends)); table = d .table }
+abbrev pub shown : {A : Type 0} → ℕ → Done ℕ A → Outcome A
+shown taken d = record { answer = stopped (d .at) (d .used) taken (endOf (d .ends)); table = d .table }
+
+-- a walk, laid down in the table; the number taken is that of the entries which it adds
+abbrev pub laid : {A : Type 0} → Form A → List A → ℕ → Out ℕ ℕ → Outcome A
+laid form T used o = shown (length (o .entries)) (finish (form .width) (form .cells) T used o)
 
 -- a refusal hands back the state that it was given, and the table stays
 abbrev pub refused : {A : Type 0} → State → List A → End → Outcome A
-refused st T e = record { answer = record { state = st; end = e }; table = T }
+refused st T e = record { answer = record { state = st; taken = 0; end = e }; table = T }
 
 -- the walk of a call, over a table that holds so many entries
-abbrev pub walkOf : List ℕ → Filter → List ℕ → State → ℕ → Out ℕ ℕ
-walkOf f filter s st size = walk (asked f filter) size (st .at) (st .used) s
+abbrev pub walkOf : List ℕ → Filter → ℕ → List ℕ → State → ℕ → Out ℕ ℕ
+walkOf f filter n s st size = walk (asked f filter) n size (st .at) (st .used) s
 
 -- the walk, laid down in the table
-unfoldable pub ahead : {A : Type 0} → Form A → List ℕ → Filter → List ℕ → State → List A → Outcome A
-ahead form f filter s st T = shown (finish (form .width) (form .cells) T (st .used) (walkOf f filter s st (form .holds (length T))))
+unfoldable pub ahead : {A : Type 0} → Form A → List ℕ → Filter → ℕ → List ℕ → State → List A → Outcome A
+ahead form f filter n s st T = laid form T (st .used) (walkOf f filter n s st (form .holds (length T)))
 
 -- BadState: more entries used than the table holds. TooLong. Then the walk
-unfoldable pub checked : {A : Type 0} → Form A → List ℕ → Filter → List ℕ → State → List A → Outcome A
-checked form f filter s st T =
+unfoldable pub checked : {A : Type 0} → Form A → List ℕ → Filter → ℕ → List ℕ → State → List A → Outcome A
+checked form f filter n s st T =
     pick (ltb (form .holds (length T)) (st .used)) (refused st T End.BadState)
     (pick (ltb limit (st .at + length s)) (refused st T End.TooLong)
-    (ahead form f filter s st T))
+    (ahead form f filter n s st T))
 
 -- BadFilter comes before all
-unfoldable pub judged : {A : Type 0} → Form A → List ℕ → List ℕ → State → List A → FilterAns → Outcome A
-judged form f s st T (FilterAns.Good filter) = checked form f filter s st T
-judged form f s st T FilterAns.Bad = refused st T End.BadFilter
+unfoldable pub judged : {A : Type 0} → Form A → List ℕ → ℕ → List ℕ → State → List A → FilterAns → Outcome A
+judged form f n s st T (FilterAns.Good filter) = checked form f filter n s st T
+judged form f n s st T FilterAns.Bad = refused st T End.BadFilter
 
--- the call: the filter's bytes, the bytes from the resume position on, the state, the table
-unfoldable pub call : {A : Type 0} → Form A → List ℕ → List ℕ → State → List A → Outcome A
-call form f s st T = judged form f s st T (filterOf f)
+-- the call: the filter's bytes, after how many entries it stops, the bytes from the resume position on, the state, the table
+unfoldable pub call : {A : Type 0} → Form A → List ℕ → ℕ → List ℕ → State → List A → Outcome A
+call form f n s st T = judged form f n s st T (filterOf f)
 
-abbrev pub outcome : List ℕ → List ℕ → State → List ℕ → Outcome ℕ
+abbrev pub outcome : List ℕ → ℕ → List ℕ → State → List ℕ → Outcome ℕ
 outcome = call flatForm

@@ -1,5 +1,5 @@
 // The trace index: the call over a lent flat table, four numbers to an entry. The caller owns the bytes and the table; the call is given the bytes
-// from the resume position on, and hands back where the next call goes on.
+// from the resume position on, stops after n entries if it doesn't end before, and hands back where the next call goes on.
 ghost use mathlib.Core.Path.{_≡_};
 ghost use mathlib.Core.List.{[], _∷_};
 ghost use Prim.Native.Nat.{_+_, _*_, _/_, _≤_};
@@ -19,17 +19,20 @@ pub struct State {
     pub used: usize,
 }
 
-// How a call ended: refused, or its walk is at a full table, or waits for so many bytes (0 for unknown).
+// How a call ended: refused, or its walk is at a full table, or has taken as many entries as it may, or waits for so many bytes (0 for unknown).
 pub enum End {
     BadFilter,
     BadState,
     TooLong,
     Full,
+    Paused,
     Waits(usize),
 }
 
+// The state behind a call, the number of entries taken in it, and how it ended.
 pub struct Indexed {
     pub state: State,
+    pub taken: usize,
     pub end: End,
 }
 
@@ -64,78 +67,103 @@ pub fn too_long(from: usize, n: usize) -> bool
 }
 
 // Where a walk stops for want of bytes.
-fn waiting(at: usize, used: usize, need: usize) -> Indexed
-    ensures { λ r. ⌜ r ≡ stopped at used (End.Waits need) ⌝ }
+fn waiting(at: usize, used: usize, taken: usize, need: usize) -> Indexed
+    ensures { λ r. ⌜ r ≡ stopped at used taken (End.Waits need) ⌝ }
 {
     Indexed {
         state: State { at, used },
+        taken,
         end: End::Waits(need),
     }
 }
 
 // Where it stops for want of a place.
-fn full(at: usize, used: usize) -> Indexed
-    ensures { λ r. ⌜ r ≡ stopped at used End.Full ⌝ }
+fn full(at: usize, used: usize, taken: usize) -> Indexed
+    ensures { λ r. ⌜ r ≡ stopped at used taken End.Full ⌝ }
 {
     Indexed {
         state: State { at, used },
+        taken,
         end: End::Full,
     }
 }
 
+// Where it gives way.
+fn paused(at: usize, used: usize, taken: usize) -> Indexed
+    ensures { λ r. ⌜ r ≡ stopped at used taken End.Paused ⌝ }
+{
+    Indexed {
+        state: State { at, used },
+        taken,
+        end: End::Paused,
+    }
+}
+
+// A refusal hands back the state that the call was given.
+fn refuse(state: State, end: End) -> Indexed
+    ensures { λ r. ⌜ r ≡ record { state = state; taken = 0; end = end } ⌝ }
+{
+    Indexed {
+        state,
+        taken: 0,
+        end,
+    }
+}
+
 // The walk, from a state that fits the table and over bytes that are not too many.
-fn walk_on(s: &[u8], f: &[u8], filter: Filter, state: State, table: &mut [u64]) -> Indexed
+fn walk_on(s: &[u8], f: &[u8], filter: Filter, state: State, table: &mut [u64], n: usize) -> Indexed
     requires { ⌜ (state .used ≤ length (now table) / 4) × (state .at + length (now s) ≤ limit) ⌝ }
-    ensures { λ r. ⌜ ahead flatForm (now (f .entry)) filter (now (s .entry)) state (now (table .entry)) ≡ record { answer = r; table = now (table .exit) } ⌝ }
+    ensures { λ r. ⌜ ahead flatForm (now (f .entry)) filter n (now (s .entry)) state (now (table .entry)) ≡ record { answer = r; table = now (table .exit) } ⌝ }
 {
     let size = table.len() / 4;
     let from = state.at;
     let mut used = state.used;
     let mut at = 0;
-    loop {
+    let mut taken = 0;
+    while taken < n {
         match ask_at(s, at, f, filter) {
-            Heard::Wait(need) => return waiting(from + at, used, need),
+            Heard::Wait(need) => return waiting(from + at, used, taken, need),
             Heard::Take { skipped, len, kind } => {
                 if size <= used {
-                    return full(from + at, used);
+                    return full(from + at, used, taken);
                 }
                 put(table, used, from + at + skipped, skipped, len, kind);
                 used += 1;
+                taken += 1;
                 at += skipped + len;
             }
         }
     }
+    paused(from + at, used, taken)
 }
 
 // The state is checked, then the length, and then it walks.
-fn index_with(s: &[u8], f: &[u8], filter: Filter, state: State, table: &mut [u64]) -> Indexed
-    ensures { λ r. ⌜ checked flatForm (now (f .entry)) filter (now (s .entry)) state (now (table .entry)) ≡ record { answer = r; table = now (table .exit) } ⌝ }
+fn index_with(
+    s: &[u8],
+    f: &[u8],
+    filter: Filter,
+    state: State,
+    table: &mut [u64],
+    n: usize,
+) -> Indexed
+    ensures { λ r. ⌜ checked flatForm (now (f .entry)) filter n (now (s .entry)) state (now (table .entry)) ≡ record { answer = r; table = now (table .exit) } ⌝ }
 {
     if table.len() / 4 < state.used {
-        return Indexed {
-            state,
-            end: End::BadState,
-        };
+        return refuse(state, End::BadState);
     }
     if too_long(state.at, s.len()) {
-        return Indexed {
-            state,
-            end: End::TooLong,
-        };
+        return refuse(state, End::TooLong);
     }
-    walk_on(s, f, filter, state, table)
+    walk_on(s, f, filter, state, table, n)
 }
 
 // The index call. `s` is given from the resume position on; an entry is start, bytes skipped, length, kind; what is left of the table behind its last
-// whole entry is never written.
-pub fn index(s: &[u8], f: &[u8], state: State, table: &mut [u64]) -> Indexed
-    ensures { λ r. ⌜ outcome (now (f .entry)) (now (s .entry)) state (now (table .entry)) ≡ record { answer = r; table = now (table .exit) } ⌝ }
+// whole entry is never written. After n entries it stops without looking further; the largest usize is no limit.
+pub fn index(s: &[u8], f: &[u8], state: State, table: &mut [u64], n: usize) -> Indexed
+    ensures { λ r. ⌜ outcome (now (f .entry)) n (now (s .entry)) state (now (table .entry)) ≡ record { answer = r; table = now (table .exit) } ⌝ }
 {
     match filter::read_filter(f) {
-        FilterAns::Good(filter) => index_with(s, f, filter, state, table),
-        FilterAns::Bad => Indexed {
-            state,
-            end: End::BadFilter,
-        },
+        FilterAns::Good(filter) => index_with(s, f, filter, state, table, n),
+        FilterAns::Bad => refuse(state, End::BadFilter),
     }
 }

@@ -9,6 +9,9 @@ use index::State;
 use libc::STDERR_FILENO;
 use libc::STDOUT_FILENO;
 
+// As many entries as the table holds.
+const NO_LIMIT: usize = 18446744073709551615;
+
 // The numbers of 1,024 entries.
 fn table_room() -> [u64; 4096]
     ensures { λ r. ⌜ 4096 ≡ length r ⌝ }
@@ -115,7 +118,7 @@ fn ending(end: End, state: State) {
 fn show(s: &[u8]) {
     let mut table = table_room();
     let fresh = State { at: 0, used: 0 };
-    let got = index::index(s, b"", fresh, &mut table);
+    let got = index::index(s, b"", fresh, &mut table, NO_LIMIT);
     let state = got.state;
     let end = got.end;
     io::write_all(STDOUT_FILENO, b"start skipped length kind\n");

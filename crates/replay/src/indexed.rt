@@ -1,4 +1,5 @@
-// `index CAP RESUME USED FILTER BYTES`: the trace index, over a table of CAP entries.
+// `index CAP RESUME USED FILTER BYTES`: the trace index, over a table of CAP entries. `index CAP RESUME USED FILTER BYTES LIMIT`: the same, and it stops
+// after LIMIT entries; then the answer tells how many it took.
 ghost use mathlib.Core.Path.{_≡_};
 ghost use lib.ListN.{length};
 use crate::digits;
@@ -12,6 +13,9 @@ use index::State;
 
 // How many entries a table has at most.
 const MOST: u64 = 4096;
+
+// As many entries as the table holds.
+const NO_LIMIT: usize = 18446744073709551615;
 
 // Room for the numbers of so many entries.
 fn table_room() -> [u64; 16384]
@@ -76,6 +80,35 @@ fn front_of(line: &[u8], kind_end: usize) -> Front {
     }
 }
 
+// The last field, if there is one: after how many entries the call stops.
+enum Limit {
+    After(u64),
+    Absent,
+    Bad,
+}
+
+// What stands behind the bytes, which end at `end`.
+fn limit_of(line: &[u8], end: usize) -> Limit {
+    if end == line.len() {
+        return Limit::Absent;
+    }
+    let word = fields::after(line, end);
+    if word.end != line.len() {
+        return Limit::Bad;
+    }
+    match digits::decimal(line, word) {
+        Number::Value(n) => Limit::After(n),
+        Number::Bad => Limit::Bad,
+    }
+}
+
+fn most_of(limit: Limit) -> usize {
+    match limit {
+        Limit::After(n) => n as usize,
+        _ => NO_LIMIT,
+    }
+}
+
 // The answer to a request whose kind ends at `kind_end`.
 pub fn answer(
     line: &[u8],
@@ -88,9 +121,7 @@ pub fn answer(
     let numbers = front_of(line, kind_end);
     let chosen = fields::after(line, numbers.end);
     let bytes = fields::after(line, chosen.end);
-    if bytes.end != line.len() {
-        return writer::bad_request(out, at);
-    }
+    let limit = limit_of(line, bytes.end);
     let n = digits::hex_bytes(line, bytes, body);
     if body.len() < n {
         return writer::bad_request(out, at);
@@ -103,14 +134,17 @@ pub fn answer(
     let f = digits::first(filter, k);
     let asked = numbers.asked;
     match asked {
-        Asked::Good(request) => shown(s, f, request, out, at),
+        Asked::Good(request) => shown(s, f, request, limit, out, at),
         Asked::Bad => writer::bad_request(out, at),
     }
 }
 
-fn shown(s: &[u8], f: &[u8], request: Request, out: &mut Out, at: usize) -> usize {
+fn shown(s: &[u8], f: &[u8], request: Request, limit: Limit, out: &mut Out, at: usize) -> usize {
     let mut table = table_room();
-    called(s, f, request, &mut table, out, at)
+    match limit {
+        Limit::Bad => writer::bad_request(out, at),
+        _ => called(s, f, request, limit, &mut table, out, at),
+    }
 }
 
 // The call over the first entries of the table, as many as were asked for.
@@ -118,10 +152,12 @@ fn called(
     s: &[u8],
     f: &[u8],
     request: Request,
+    limit: Limit,
     table: &mut [u64],
     out: &mut Out,
     at: usize,
 ) -> usize {
+    let most = most_of(limit);
     let state = request.state;
     let cap = request.cap;
     if MOST < cap {
@@ -131,11 +167,20 @@ fn called(
     if table.len() < size {
         return at;
     }
-    let got = index::index(s, f, state, &mut table[..size]);
+    let got = index::index(s, f, state, &mut table[..size], most);
     let after = got.state;
     let end = got.end;
     let head = ending(out, at, end, after);
-    entries(out, head, table, state.used, after.used)
+    let told = taken(out, head, limit, got.taken);
+    entries(out, told, table, state.used, after.used)
+}
+
+// How many entries were taken, where there was a limit.
+fn taken(out: &mut Out, at: usize, limit: Limit, n: usize) -> usize {
+    match limit {
+        Limit::After(_) => writer::labelled(out, at, b" taken=", n as u64),
+        _ => at,
+    }
 }
 
 // The number, the state and the need.
@@ -145,6 +190,7 @@ fn ending(out: &mut Out, at: usize, end: End, state: State) -> usize {
         End::BadState => refused(out, at, b"5", state),
         End::TooLong => refused(out, at, b"6", state),
         End::Full => refused(out, at, b"7", state),
+        End::Paused => refused(out, at, b"8", state),
         End::Waits(need) => {
             let first = literal_state(out, at, b"0", state);
             writer::labelled(out, first, b" need=", need as u64)

@@ -1,9 +1,9 @@
 //! compare KIND COUNT SEED [THREADS]: makes requests by seed as `oracle/compare` does, asks the crate and the archive in this process, and counts the
-//! answers that differ. KIND is msg, consume, fwd, args, index or all. With threads, each has a seed of its own: SEED, SEED + 1, ..
+//! answers that differ. KIND is msg, consume, fwd, args, index, limited (index with a limit) or all. With threads, each has a seed of its own: SEED, SEED + 1, ..
 
 use std::time::Instant;
 
-const KINDS: [&str; 5] = ["msg", "consume", "fwd", "args", "index"];
+const KINDS: [&str; 6] = ["msg", "consume", "fwd", "args", "index", "limited"];
 
 struct Count {
     asked: u64,

@@ -7,7 +7,7 @@ pub const TINY: &[Section] = &[written];
 pub const SECTIONS: &[Section] = &[written, spoilt_examples];
 
 /// Lines at the edges of the rule in README.md.
-const WRITTEN: [&str; 63] = [
+const WRITTEN: [&str; 70] = [
     "",
     " ",
     "-",
@@ -66,6 +66,13 @@ const WRITTEN: [&str; 63] = [
     "index 4097 0 0 - -",
     "index 04096 0 0 - -",
     "index 1 0 0 -",
+    "index 1 0 0 - - -",
+    "index 1 0 0 - - 0",
+    "index 1 0 0 - - 00000000000000000001",
+    "index 1 0 0 - - 18446744073709551615",
+    "index 1 0 0 - - 18446744073709551616",
+    "index 1 0 0 - - 0 ",
+    "index 1 0 0 - - 0 0",
     "mi 1",
     "mi 123",
     "mi 4G",

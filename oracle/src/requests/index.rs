@@ -1,17 +1,22 @@
-//! Requests for document 01's index call.
+//! Requests for document 01's index call, without a limit and with one.
 
 use super::build::{damage, filter, filter_or_none, junk, stored_message, PATTERN};
 use super::random::Rng;
 use super::{hex, Emit, Section};
-use crate::index::{call, State};
+use crate::index::{call, State, NONE};
 
 pub const TINY: &[Section] = &[];
 pub const SECTIONS: &[Section] = &[tables, cuts, carried_on, refusals, long_traces];
+pub const LIMITED: &[Section] = &[limits, paused_and_carried_on, limited_refusals, long_limits];
 
 const FRESH: State = State { resume: 0, used: 0 };
 
 fn request(table: usize, state: State, filter: &[u8], bytes: &[u8]) -> String {
     format!("index {table} {} {} {} {}", state.resume, state.used, hex(filter), hex(bytes))
+}
+
+fn limited(table: usize, state: State, filter: &[u8], bytes: &[u8], limit: u64) -> String {
+    format!("{} {limit}", request(table, state, filter, bytes))
 }
 
 /// A trace of messages, damaged messages, bare patterns and junk.
@@ -70,7 +75,7 @@ fn carry_on(rng: &mut Rng) -> String {
     let mut end = 0;
     for _ in 0..rng.below(4) {
         end += rng.below(trace.len() - end + 1);
-        if let Ok((_, after, _)) = call(table, state, &filter, &trace[state.resume as usize..end]) {
+        if let Ok((_, after, _)) = call(table, state, &filter, &trace[state.resume as usize..end], NONE) {
             state = after;
         }
     }
@@ -121,4 +126,84 @@ pub fn random(rng: &mut Rng) -> String {
     let used = if rng.one_in(3) { rng.below(8) as u64 } else { 0 };
     let resume = if rng.one_in(3) { rng.next() >> rng.below(64) } else { 0 };
     request(table, State { resume, used }, &filter, &bytes)
+}
+
+/// Every small limit with tables of every small size, some of it used: a limit below the free entries, at them and above.
+fn limits(rng: &mut Rng, emit: Emit) {
+    for _ in 0..30 {
+        let trace = trace(rng, 6);
+        let filter = filter_or_none(rng);
+        for table in 0..=5 {
+            for used in 0..=table.min(2) {
+                for limit in 0..=6 {
+                    emit(&limited(table, State { resume: 0, used: used as u64 }, &filter, &trace, limit));
+                }
+            }
+        }
+    }
+}
+
+/// The state that limited calls leave, and then one more.
+fn paused_and_carried_on(rng: &mut Rng, emit: Emit) {
+    for _ in 0..300 {
+        emit(&pause_and_carry_on(rng));
+    }
+}
+
+fn some_limit(rng: &mut Rng) -> u64 {
+    match rng.below(8) {
+        0 => 0,
+        1 => NONE,
+        2 => rng.next() >> rng.below(64),
+        _ => rng.below(5) as u64,
+    }
+}
+
+fn pause_and_carry_on(rng: &mut Rng) -> String {
+    let trace = trace(rng, 6);
+    let filter = filter_or_none(rng);
+    let table = rng.below(7);
+    let mut state = FRESH;
+    let mut end = 0;
+    for _ in 0..rng.below(4) {
+        end += rng.below(trace.len() - end + 1);
+        if let Ok((_, after, _)) = call(table, state, &filter, &trace[state.resume as usize..end], some_limit(rng)) {
+            state = after;
+        }
+    }
+    end += rng.below(trace.len() - end + 1);
+    limited(table, state, &filter, &trace[state.resume as usize..end], some_limit(rng))
+}
+
+/// A refusal comes before Paused, also with a limit of 0.
+fn limited_refusals(rng: &mut Rng, emit: Emit) {
+    let trace = trace(rng, 3);
+    let last = 4_294_967_295 - trace.len() as u64;
+    for resume in [0, last, last + 1] {
+        for used in [0, 2, 3] {
+            for filter in [&[][..], &[0], &[1, 0, 1, 2]] {
+                for limit in [0, 1, NONE] {
+                    emit(&limited(2, State { resume, used }, filter, &trace, limit));
+                }
+            }
+        }
+    }
+}
+
+/// Limits near the number of entries, and near the table's end.
+fn long_limits(_: &mut Rng, emit: Emit) {
+    let item = [&PATTERN[..], &[0; 12], &[0x20, 0, 0, 8, 1, 2, 3, 4]].concat();
+    let trace = item.repeat(1000);
+    for table in [999, 1000, 1001] {
+        for limit in [998, 999, 1000, 1001, NONE] {
+            emit(&limited(table, FRESH, &[], &trace, limit));
+        }
+    }
+}
+
+pub fn random_limited(rng: &mut Rng) -> String {
+    if rng.one_in(2) {
+        return pause_and_carry_on(rng);
+    }
+    format!("{} {}", random(rng), some_limit(rng))
 }

@@ -29,7 +29,7 @@ pub struct Kind {
 }
 
 /// Every kind, in the order in which `all` goes through them.
-pub const KINDS: [Kind; 11] = [
+pub const KINDS: [Kind; 12] = [
     Kind { name: "zts", tiny: strings::TINY, sections: strings::SECTIONS, random: strings::random },
     Kind { name: "fwd", tiny: fields::FORWARD_TINY, sections: fields::FORWARD, random: fields::random_forward },
     Kind { name: "skip", tiny: fields::SKIP_TINY, sections: fields::SKIP, random: fields::random_skip },
@@ -45,6 +45,7 @@ pub const KINDS: [Kind; 11] = [
     Kind { name: "args", tiny: signals::TINY, sections: signals::SECTIONS, random: signals::random },
     Kind { name: "msg", tiny: messages::TINY, sections: messages::SECTIONS, random: messages::random },
     Kind { name: "index", tiny: index::TINY, sections: index::SECTIONS, random: index::random },
+    Kind { name: "limited", tiny: index::TINY, sections: index::LIMITED, random: index::random_limited },
     Kind { name: "bad", tiny: bad::TINY, sections: bad::SECTIONS, random: bad::random },
 ];
 

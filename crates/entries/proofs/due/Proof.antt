@@ -12,7 +12,7 @@ use Rattle.filter.specs.declared.Filter.{Filter}
 use Rattle.step.specs.Step.{asked, stepOf}
 use Rattle.step.proofs.Fair.{fair}
 use Rattle.index.proofs.Laws.{tail-part}
-use Rattle.entries.proofs.Turns.{turn-waits, turn-full, turn-writes}
+use Rattle.entries.proofs.Turns.{turn-paused, turn-waits, turn-full, turn-writes}
 use Rattle.entries.proofs.due.Statement.{statement}
 use Rattle.entries.proofs.due.Tie as tie
 
@@ -22,16 +22,16 @@ abbrev Arm : Type 0
 Arm = tie.After-skipped
 
 abbrev bytes : Arm → List ℕ
-bytes c = now (c .before .before .before .before .before .before .args .s)
+bytes c = now (c .before .before .before .before .before .before .before .args .s)
 
 abbrev filters : Arm → List ℕ
-filters c = now (c .before .before .before .before .before .before .args .f)
+filters c = now (c .before .before .before .before .before .before .before .args .f)
 
 abbrev verdict : Arm → Filter
-verdict c = c .before .before .before .before .before .before .args .filter
+verdict c = c .before .before .before .before .before .before .before .args .filter
 
 abbrev at : Arm → ℕ
-at c = c .before .before .before .before .before .before .args .at
+at c = c .before .before .before .before .before .before .before .args .at
 
 abbrev skip : Arm → ℕ
 skip c = c .skipped .given .0 .0
@@ -50,6 +50,12 @@ lies c =
 add-here : tie.Need-add-here
 add-here c = search needs
 
+stop-requires : tie.Need-stop-requires
+stop-requires c κs = search needs
+
+returns : tie.Need-returns
+returns c = c .stop .ensures ∙ turn-paused _ _ _ _ _ _ _ _ (omega arith)
+
 sub-ask : tie.Need-sub-ask
 sub-ask c = search needs
 
@@ -65,55 +71,47 @@ ask-requires c κs = search needs
 enum-known-need : tie.Need-enum-known-need
 enum-known-need c = search needs
 
-stop-requires : tie.Need-stop-requires
-stop-requires c κs = search needs
+stop-requires-2 : tie.Need-stop-requires-2
+stop-requires-2 c κs = search needs
 
 enum-known-skipped : tie.Need-enum-known-skipped
 enum-known-skipped c = search needs
 
-stop-requires-2 : tie.Need-stop-requires-2
-stop-requires-2 c κs = search needs
-
-returns : tie.Need-returns
-returns c = c .stop2 .ensures ∙ turn-full _ _ _ _ _ (takes (c .before .before .before)) (omega arith)
-
-add-start : tie.Need-add-start
-add-start c = omega (arith, lies (c .before .before))
-
-add-past : tie.Need-add-past
-add-past c = omega (arith, lies (c .before .before))
-
-add-past-2 : tie.Need-add-past-2
-add-past-2 c = omega (arith, lies (c .before .before))
+stop-requires-3 : tie.Need-stop-requires-3
+stop-requires-3 c κs = search needs
 
 returns-2 : tie.Need-returns-2
-returns-2 c =
-    let a = c .before .before .before .before .before .before .before .before .args in
-    c .stop .ensures
-    ∙ turn-waits _ _ _ _ _
-    (ap (asked (now (a .f)) (a .filter)) (sym (tail-part (now (a .s)) (a .at))) ∙ sym (c .before .before .before .before .ask .ensures) ∙ ap stepOf (c .before .before .need .given .1))
+returns-2 c = c .stop3 .ensures ∙ turn-full _ _ _ _ _ _ _ (omega arith) (takes (c .before .before .before)) (omega arith)
+
+write-requires : tie.Need-write-requires
+write-requires c κs = omega (arith, lies (c .before .before))
 
 returns-3 : tie.Need-returns-3
 returns-3 c =
-    let a = c .before .before .before .before .before .before .before .before .args in
-    turn-writes (a .filter) (a .from) (a .cap) (a .used) (a .at) (takes (c .before .before)) (omega arith)
+    let a = c .before .before .before .before .before .before .before .before .before .args in
+    c .stop2 .ensures
+    ∙ turn-waits _ _ _ _ _ _ _ (omega arith)
+    (ap (asked (now (a .f)) (a .filter)) (sym (tail-part (now (a .s)) (a .at))) ∙ sym (c .before .before .before .before .ask .ensures) ∙ ap stepOf (c .before .before .need .given .1))
+
+returns-4 : tie.Need-returns-4
+returns-4 c = c .write .ensures ∙ turn-writes _ _ _ _ _ _ _ (omega arith) (takes (c .before .before .before)) (omega arith)
 
 pub due-spec : {M : Type 1} → statement M
 due-spec =
     tie.close
     (tie.spec
     add-here
+    stop-requires
+    returns
     sub-ask
     part-ask-start
     part-ask-end
     ask-requires
     enum-known-need
-    stop-requires
-    enum-known-skipped
     stop-requires-2
-    returns
-    add-start
-    add-past
-    add-past-2
+    enum-known-skipped
+    stop-requires-3
     returns-2
-    returns-3)
+    write-requires
+    returns-3
+    returns-4)

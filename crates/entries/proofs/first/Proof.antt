@@ -19,7 +19,7 @@ stop-requires c κs = search needs
 returns : tie.Need-returns
 returns c =
     let a = c .before .before .before .before in
-    c .stop .ensures ∙ first-bad-state _ _ _ _ _ (a .before .before .read-filter .ensures) _ (a .filter .given .1) (omega arith)
+    c .stop .ensures ∙ first-bad-state _ _ _ _ _ _ (a .before .before .read-filter .ensures) _ (a .filter .given .1) (omega arith)
 
 too-long-requires : tie.Need-too-long-requires
 too-long-requires c κs = search needs
@@ -31,7 +31,7 @@ returns-2 : tie.Need-returns-2
 returns-2 c =
     let a = c .before .before .before .before .before .before in
     c .stop2 .ensures
-    ∙ first-too-long _ _ _ _ _ (a .before .before .read-filter .ensures) _ (a .filter .given .1) (omega arith) (sym (c .before .before .too-long .ensures) ∙ c .before .if2 .taken)
+    ∙ first-too-long _ _ _ _ _ _ (a .before .before .read-filter .ensures) _ (a .filter .given .1) (omega arith) (sym (c .before .before .too-long .ensures) ∙ c .before .if2 .taken)
 
 due-requires : tie.Need-due-requires
 due-requires c κs = (omega arith, ltb-false _ _ (sym (c .before .too-long .ensures) ∙ c .if2 .left))
@@ -46,10 +46,10 @@ returns-3 : tie.Need-returns-3
 returns-3 c =
     let a = c .before .before .before .before .before .before in
     c .due .ensures
-    ∙ first-due _ _ _ _ _ (a .before .before .read-filter .ensures) _ (a .filter .given .1) (omega arith) (sym (c .before .before .too-long .ensures) ∙ c .before .if2 .left)
+    ∙ first-due _ _ _ _ _ _ (a .before .before .read-filter .ensures) _ (a .filter .given .1) (omega arith) (sym (c .before .before .too-long .ensures) ∙ c .before .if2 .left)
 
 returns-4 : tie.Need-returns-4
-returns-4 c = c .stop3 .ensures ∙ first-bad-filter _ _ _ _ _ (c .before .before .before .read-filter .ensures) (c .before .enum-told .given .1)
+returns-4 c = c .stop3 .ensures ∙ first-bad-filter _ _ _ _ _ _ (c .before .before .before .read-filter .ensures) (c .before .enum-told .given .1)
 
 pub first-spec : {M : Type 1} → statement M
 first-spec =

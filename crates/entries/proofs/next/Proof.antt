@@ -7,6 +7,9 @@ use Rattle.entries.proofs.next.Tie as tie
 add-due : tie.Need-add-due
 add-due c = search needs
 
+add-due-2 : tie.Need-add-due-2
+add-due-2 c = search needs
+
 due-requires : tie.Need-due-requires
 due-requires c κs = search needs
 
@@ -15,4 +18,4 @@ unfolding nextOf
 returns c = c .due .ensures
 
 pub next-spec : {M : Type 1} → statement M
-next-spec = tie.close (tie.spec add-due due-requires returns)
+next-spec = tie.close (tie.spec add-due add-due-2 due-requires returns)

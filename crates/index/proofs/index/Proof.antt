@@ -2,7 +2,7 @@
 use mathlib.Core.Path.{_∙_}
 use borrow.Author.Needs.{needs}
 use Rattle.index.specs.Index.{flatForm}
-use Rattle.index.proofs.Laws.{bad-filter, good-filter}
+use Rattle.index.proofs.Laws.{bad-filter, good-filter, with-answer}
 use Rattle.index.proofs.index.Statement.{statement}
 use Rattle.index.proofs.index.Tie as tie
 
@@ -18,16 +18,21 @@ index-with-requires c κs = search needs
 enum-told : tie.Need-enum-told
 enum-told c = search needs
 
+refuse-requires : tie.Need-refuse-requires
+refuse-requires c κs = search needs
+
 same-length : tie.Need-same-length
 same-length c = search needs
 
 returns : tie.Need-returns
 returns c =
-    good-filter flatForm _ _ _ _ _ _ (c .before .before .before .before .before .before .before .read-filter .ensures) (c .before .before .before .before .before .filter .given .1)
+    good-filter flatForm _ _ _ _ _ _ _ (c .before .before .before .before .before .before .before .read-filter .ensures) (c .before .before .before .before .before .filter .given .1)
     ∙ c .before .before .index-with .ensures
 
 returns-2 : tie.Need-returns-2
-returns-2 c = bad-filter flatForm _ _ _ _ _ (c .before .before .read-filter .ensures) (c .enum-told .given .1)
+returns-2 c =
+    bad-filter flatForm _ _ _ _ _ _ (c .before .before .before .read-filter .ensures) (c .before .enum-told .given .1)
+    ∙ with-answer _ (c .refuse .ensures)
 
 pub index-spec : {M : Type 1} → statement M
 index-spec =
@@ -37,6 +42,7 @@ index-spec =
     enum-known-filter
     index-with-requires
     enum-told
+    refuse-requires
     same-length
     returns
     returns-2)

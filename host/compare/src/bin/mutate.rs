@@ -1,6 +1,6 @@
 //! mutate DIR SECONDS SEED: for so many seconds, parts of the recordings below DIR, damaged as a fuzzer does it (bits flipped, bytes set to values near a
-//! boundary, parts cut out, doubled, moved and spliced), asked of the crate and of the archive: one message with and without storage header, the index, the search,
-//! and dlt_consume_msg.
+//! boundary, parts cut out, doubled, moved and spliced), asked of the crate and of the archive: one message with and without storage header, the index
+//! without and with a limit, the search, and dlt_consume_msg.
 
 use std::{fs, path::Path, process::exit, time::Instant};
 
@@ -79,7 +79,7 @@ fn run(dir: &Path, seconds: u64, seed: u64) -> Result<bool, String> {
             damage(&mut dice, &mut bytes, &files[other]);
             let text = hex(&bytes);
             let plain = hex(bytes.get(16..).unwrap_or(&[]));
-            for line in [format!("msg 1 - {text}"), format!("msg 0 - {plain}"), format!("index 64 0 0 - {text}"), format!("fwd {text}"), format!("consume {text}")] {
+            for line in [format!("msg 1 - {text}"), format!("msg 0 - {plain}"), format!("index 64 0 0 - {text}"), format!("index 64 0 0 - {text} {}", dice.below(4)), format!("fwd {text}"), format!("consume {text}")] {
                 let Some(ours) = host::text::answer(&line) else { continue };
                 let theirs = oracle::answer::answer(line.as_bytes());
                 asked += 1;

@@ -1,9 +1,11 @@
 //! walks corpus DIR: each recording below DIR gives exactly its walk in DIR/walks: in one call; cut in two, at every byte where it has under 4,096 bytes
 //! and at 1,000 places else, with the bytes before the resume position overwritten between the calls; with a table of as many entries as the walk has, of one
-//! less, of one and of none.
+//! less, of one and of none; and 1, 2, 7 and 1,000 entries at a time, at some cut and with each of these tables.
 //! walks random COUNT SEED: traces with damage, made by seed, in pieces at random places, against one call of the oracle over all of it.
+//! walks limits COUNT SEED: the same, with random limits, 0 among them: each call against the oracle's walk with that limit, and all of them against one call
+//! of the oracle without.
 
-use host::{Entry, State};
+use host::{End, Entry, Indexed, State, NO_LIMIT};
 use std::{fs, path::Path, process::exit};
 
 struct Random(u64);
@@ -21,28 +23,36 @@ impl Random {
     }
 }
 
-/// Calls one after another: each is given the bytes from the resume position on, up to the next cut. What lies before that is overwritten. Refused: None.
-fn in_pieces(bytes: &[u8], cuts: &[usize], filter: &[u8], table: &mut [Entry]) -> Option<(State, Option<u64>)> {
-    let mut state = State::default();
-    let mut need = None;
+/// Calls one after another: each is given the bytes from the resume position on, up to the next cut, and stops after `n` entries; where it was Paused it is
+/// repeated. What lies before the resume position is overwritten. Refused: None. The number taken is that of all the calls.
+fn in_pieces(bytes: &[u8], cuts: &[usize], filter: &[u8], table: &mut [Entry], n: usize) -> Option<Indexed> {
+    let mut all = Indexed { state: State::default(), taken: 0, end: End::Paused };
     let mut held = bytes.to_vec();
     for end in cuts.iter().copied().chain([bytes.len()]) {
-        held[..state.at].fill(0x44);
-        match host::index(&held[state.at..end], filter, state, table) {
-            Ok((after, host::End::Waits(n))) => (state, need) = (after, Some(n)),
-            Ok((after, host::End::Full)) => (state, need) = (after, None),
-            Err(_) => return None,
+        loop {
+            held[..all.state.at].fill(0x44);
+            let one = host::index(&held[all.state.at..end], filter, all.state, table, n).ok()?;
+            all = Indexed { taken: all.taken + one.taken, ..one };
+            if one.end != End::Paused {
+                break;
+            }
         }
     }
-    Some((state, need))
+    Some(all)
 }
 
-fn listed(bytes: &[u8], cuts: &[usize], cap: usize) -> String {
+fn listed(bytes: &[u8], cuts: &[usize], cap: usize, n: usize) -> String {
     let mut table = vec![Entry::default(); cap];
-    let Some((state, need)) = in_pieces(bytes, cuts, &[], &mut table) else { return "refused".to_string() };
+    let Some(all) = in_pieces(bytes, cuts, &[], &mut table, n) else { return "refused".to_string() };
+    if all.taken != all.state.used {
+        return format!("{} taken, {} used", all.taken, all.state.used);
+    }
     let mut lines = vec!["start skipped length kind".to_string()];
-    lines.extend(table[..state.used].iter().map(host::text::entry_text));
-    lines.push(need.map_or(format!("full {}", state.at), |need| format!("waits {} {need}", state.at)));
+    lines.extend(table[..all.state.used].iter().map(host::text::entry_text));
+    lines.push(match all.end {
+        End::Waits(need) => format!("waits {} {need}", all.state.at),
+        _ => format!("full {}", all.state.at),
+    });
     lines.join("\n") + "\n"
 }
 
@@ -77,12 +87,15 @@ fn corpus(dir: &Path) -> Result<bool, String> {
             let cuts: Vec<usize> = if bytes.len() < 4096 { (0..=bytes.len()).collect() } else { (0..1000).map(|_| random.below(bytes.len() + 1)).collect() };
             let mut bad = 0;
             for cap in [count, count.saturating_sub(1), 1, 0, count + 7] {
-                walks += 1;
-                bad += u64::from(listed(&bytes, &[], cap) != cut_short(&walk, cap));
+                for n in [NO_LIMIT, 1, 2, 7, 1000] {
+                    walks += 2;
+                    bad += u64::from(listed(&bytes, &[], cap, n) != cut_short(&walk, cap));
+                    bad += u64::from(listed(&bytes, &[random.below(bytes.len() + 1)], cap, n) != cut_short(&walk, cap));
+                }
             }
             for cut in cuts {
                 walks += 1;
-                bad += u64::from(listed(&bytes, &[cut], count) != walk);
+                bad += u64::from(listed(&bytes, &[cut], count, NO_LIMIT) != walk);
             }
             if bad > 0 {
                 println!("{part}/{name}: {bad} walks differ");
@@ -99,9 +112,34 @@ fn unhex(word: &str) -> Vec<u8> {
     (0..word.len() / 2).map(|i| u8::from_str_radix(&word[2 * i..2 * i + 2], 16).unwrap_or(0)).collect()
 }
 
-fn random(count: u64, seed: u64) -> Result<bool, String> {
-    let mut dice = Random(seed.wrapping_mul(0x9E37_79B9_7F4A_7C15) | 1);
-    let (mut traces, mut calls, mut entries, mut wrong) = (0u64, 0u64, 0u64, 0u64);
+/// What the calls left, as the oracle writes it.
+fn told(all: &Indexed, table: &[Entry], from: usize) -> String {
+    let (number, need) = match all.end {
+        End::Waits(need) => (0, need.to_string()),
+        End::Full => (7, "-".to_string()),
+        End::Paused => (8, "-".to_string()),
+    };
+    let mut text = format!("{number} resume={} used={} need={need} taken={}", all.state.at, all.state.used, all.taken);
+    table[from..all.state.used].iter().for_each(|e| text += &format!(" ({})", host::text::entry_text(e)));
+    text
+}
+
+/// The oracle's answer from that state, with this limit.
+fn asked(cap: usize, state: State, filter: &[u8], bytes: &[u8], n: usize) -> String {
+    let given = oracle::index::State { resume: state.at as u64, used: state.used as u64 };
+    let line = oracle::index::answer(cap, given, filter, bytes, Some(n as u64)).unwrap_or_else(|problem| problem);
+    if line.starts_with("1 ") { "refused".to_string() } else { line }
+}
+
+struct Trace {
+    cap: usize,
+    filter: Vec<u8>,
+    bytes: Vec<u8>,
+    cuts: Vec<usize>,
+}
+
+/// Traces with cuts, made by seed, until so many are made.
+fn traces(count: u64, seed: u64, dice: &mut Random, each: &mut dyn FnMut(&mut Random, &Trace)) -> Result<(), String> {
     for kind in oracle::requests::kinds("index")? {
         kind.make(Some(count), seed, &mut |line| {
             let words: Vec<&str> = line.split(' ').collect();
@@ -109,31 +147,87 @@ fn random(count: u64, seed: u64) -> Result<bool, String> {
             let (cap, filter, bytes) = (cap.parse::<usize>().unwrap_or(0), unhex(filter), unhex(bytes));
             let mut cuts: Vec<usize> = (0..dice.below(6)).map(|_| dice.below(bytes.len() + 1)).collect();
             cuts.sort_unstable();
-            let mut table = vec![Entry::default(); cap];
-            let ours = match in_pieces(&bytes, &cuts, &filter, &mut table) {
-                None => "refused".to_string(),
-                Some((state, need)) => {
-                    entries += state.used as u64;
-                    let number = if need.is_some() { 0 } else { 7 };
-                    let mut text = format!("{number} resume={} used={} need={}", state.at, state.used, need.map_or("-".to_string(), |n| n.to_string()));
-                    table[..state.used].iter().for_each(|e| text += &format!(" ({})", host::text::entry_text(e)));
-                    text
-                }
-            };
-            let fresh = oracle::index::State { resume: 0, used: 0 };
-            let theirs = oracle::index::answer(cap, fresh, &filter, &bytes).unwrap_or_else(|problem| problem);
-            let theirs = if theirs.starts_with("1 ") { "refused".to_string() } else { theirs };
-            traces += 1;
-            calls += cuts.len() as u64 + 1;
-            if ours != theirs {
-                wrong += 1;
-                if wrong == 1 {
-                    println!("{line}\ncuts:  {cuts:?}\ncrate: {theirs}\nours:  {ours}");
-                }
-            }
+            each(dice, &Trace { cap, filter, bytes, cuts });
         });
     }
-    println!("{traces} traces in {calls} calls with {entries} entries, {wrong} differ");
+    Ok(())
+}
+
+fn random(count: u64, seed: u64) -> Result<bool, String> {
+    let mut dice = Random(seed.wrapping_mul(0x9E37_79B9_7F4A_7C15) | 1);
+    let (mut made, mut calls, mut entries, mut wrong) = (0u64, 0u64, 0u64, 0u64);
+    traces(count, seed, &mut dice, &mut |_, trace| {
+        let mut table = vec![Entry::default(); trace.cap];
+        let ours = in_pieces(&trace.bytes, &trace.cuts, &trace.filter, &mut table, NO_LIMIT);
+        let ours = ours.map_or("refused".to_string(), |all| {
+            entries += all.taken as u64;
+            told(&all, &table, 0)
+        });
+        let theirs = asked(trace.cap, State::default(), &trace.filter, &trace.bytes, NO_LIMIT);
+        made += 1;
+        calls += trace.cuts.len() as u64 + 1;
+        if ours != theirs {
+            wrong += 1;
+            if wrong == 1 {
+                println!("cuts:  {:?}\ncrate: {theirs}\nours:  {ours}", trace.cuts);
+            }
+        }
+    })?;
+    println!("{made} traces in {calls} calls with {entries} entries, {wrong} differ");
+    Ok(wrong == 0)
+}
+
+fn some_limit(dice: &mut Random) -> usize {
+    match dice.below(10) {
+        0 => 0,
+        1 => NO_LIMIT,
+        2 => dice.next() as usize,
+        _ => dice.below(6),
+    }
+}
+
+/// One trace with limits: how many calls were made, how many were Paused, and how many differ.
+fn with_limits(dice: &mut Random, trace: &Trace) -> (u64, u64, u64) {
+    let mut table = vec![Entry::default(); trace.cap];
+    let mut held = trace.bytes.clone();
+    let mut all = Indexed { state: State::default(), taken: 0, end: End::Paused };
+    let (mut calls, mut paused, mut wrong) = (0, 0, 0);
+    for end in trace.cuts.iter().copied().chain([trace.bytes.len()]) {
+        loop {
+            let (from, n) = (all.state, some_limit(dice));
+            held[..from.at].fill(0x44);
+            let theirs = asked(trace.cap, from, &trace.filter, &trace.bytes[from.at..end], n);
+            calls += 1;
+            let Ok(one) = host::index(&held[from.at..end], &trace.filter, from, &mut table, n) else {
+                return (calls, paused, wrong + u64::from(theirs != "refused"));
+            };
+            wrong += u64::from(told(&one, &table, from.used) != theirs);
+            all = Indexed { taken: all.taken + one.taken, ..one };
+            if one.end != End::Paused {
+                break;
+            }
+            paused += 1;
+            // at times it is cancelled here, and goes on with more bytes
+            if end != trace.bytes.len() && dice.below(8) == 0 {
+                break;
+            }
+        }
+    }
+    let whole = asked(trace.cap, State::default(), &trace.filter, &trace.bytes, NO_LIMIT);
+    (calls, paused, wrong + u64::from(told(&all, &table, 0) != whole))
+}
+
+fn limits(count: u64, seed: u64) -> Result<bool, String> {
+    let mut dice = Random(seed.wrapping_mul(0x9E37_79B9_7F4A_7C15) | 1);
+    let (mut made, mut calls, mut paused, mut wrong) = (0u64, 0u64, 0u64, 0u64);
+    traces(count, seed, &mut dice, &mut |dice, trace| {
+        let (c, p, w) = with_limits(dice, trace);
+        if w > 0 && wrong == 0 {
+            println!("differs: a table of {}, cuts {:?}, filter {:?}, bytes {:?}", trace.cap, trace.cuts, trace.filter, trace.bytes);
+        }
+        (made, calls, paused, wrong) = (made + 1, calls + c, paused + p, wrong + w);
+    })?;
+    println!("{made} traces in {calls} calls with random limits, {paused} of them Paused, {wrong} differ");
     Ok(wrong == 0)
 }
 
@@ -141,11 +235,12 @@ fn main() {
     let words: Vec<String> = std::env::args().skip(1).collect();
     let said = match &words.iter().map(String::as_str).collect::<Vec<_>>()[..] {
         ["corpus", dir] => corpus(Path::new(dir)),
-        ["random", count, seed] => match (count.parse(), seed.parse()) {
-            (Ok(count), Ok(seed)) => random(count, seed),
+        [word @ ("random" | "limits"), count, seed] => match (count.parse(), seed.parse()) {
+            (Ok(count), Ok(seed)) if *word == "random" => random(count, seed),
+            (Ok(count), Ok(seed)) => limits(count, seed),
             _ => Err("COUNT and SEED are numbers".to_string()),
         },
-        _ => Err("expected corpus DIR or random COUNT SEED".to_string()),
+        _ => Err("expected corpus DIR, random COUNT SEED or limits COUNT SEED".to_string()),
     };
     match said {
         Ok(true) => (),

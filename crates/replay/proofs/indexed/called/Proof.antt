@@ -8,12 +8,14 @@ pub called-spec : {M : Type 1} → statement M
 called-spec =
     tie.close
     (tie.spec
+    (λ c κs. search needs)
     (λ c. search needs)
     (λ c. search needs)
     (λ c. search needs)
     (λ c. search needs)
     -- slice-aggregate-index
     (λ c. counted _ _ (search needs))
+    (λ c κs. search needs)
     (λ c κs. search needs)
     (λ c κs. search needs)
     (λ c κs. search needs)
