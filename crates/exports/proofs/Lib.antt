@@ -1,2 +1,3 @@
 pub mod Reading
+mod Outlined
 pub mod Determined

@@ -2,15 +2,21 @@
 // the layout, number by number.
 ghost use mathlib.Core.Path.{_≡_};
 ghost use mathlib.Core.List.{[], _∷_};
-ghost use Prim.Native.Nat.{_+_, _≤_};
+ghost use mathlib.Core.Bool.{true};
+ghost use Prim.Native.Nat.{_+_, _-_, _≤_, _<_};
 ghost use lib.ListN.{length};
 ghost use lib.Ieee.{binary32, binary64, toBits};
 ghost use Rattle.table.specs.Over.{over};
+ghost use Rattle.wire.specs.Number.{numberOf};
+ghost use Rattle.strings.specs.Text.{textOf};
+ghost use Rattle.headertype.specs.HeaderType.{allHeaders};
+ghost use Rattle.outline.specs.There.{behind, idIf, numberIf, storedAt, standardAt, extendedPlace, extendedIf};
 ghost use Rattle.messageinfo.specs.Kept.{applicationNumber, networkNumber, controlNumber, typeNumber, subtypeNumber};
 ghost use Rattle.messageinfo.specs.Level.{number};
 ghost use Rattle.parse.specs.Message.{itemOf};
 ghost use Rattle.parse.specs.declared.ParsedMessage.{ParsedMessage};
 ghost use Rattle.numbers.specs.Layout.{oneIf, orderNumber, rangeNumbers, numNumbers, storageNumbers, frontNumbers, standardNumbers, extendedNumbers, payloadNumbers, leadNumbers, messageLaid};
+ghost use Rattle.numbers.specs.Outlined.{outlinedLaid};
 ghost use Rattle.numbers.specs.Arguments.{signedBits, lengthBits, widthBits, kindNumber, kindBits, codingNumber, valueNumber, valueFirst, valueSecond, offsetWidth, offsetBits, kindNumbers, codingNumbers, pointNumbers, valueNumbers, typeNumbers, nameNumbers, contentNumbers, argumentNumbers, argumentLaid};
 use dlt::Argument;
 use dlt::FixedPointValue;
@@ -32,11 +38,15 @@ use messageinfo::ExtendedHeader;
 use messageinfo::LogLevel;
 use messageinfo::MessageType;
 use messageinfo::NetworkTraceType;
+use outline::Outline;
 use parse::Headers;
 use payload::PayloadContent;
 use reals::Real32;
 use reals::Real64;
 use storage::OptStored;
+use wire::Range;
+use wire::RangeAns;
+use wire::U32Ans;
 
 // ---- some numbers in a row, from place `at` on
 
@@ -361,6 +371,186 @@ pub fn put_item(out: &mut [u64], h: Headers, content: PayloadContent)
         put_lead(out, stored, header);
         put_extended(out, extended);
         put_payload(out, content);
+    }
+}
+
+// ---- the same groups straight from the bytes, of a message that was told at a glance
+
+// The byte at a place.
+fn byte_at(s: &[u8], at: usize) -> u8
+    requires { ⌜ at + 1 ≤ length (now s) ⌝ }
+    ensures { λ r. ⌜ r ≡ numberOf true 1 (now (s .entry)) at ⌝ }
+{
+    s[at]
+}
+
+// The 32 bits at a place.
+fn word_at(s: &[u8], at: usize, big: bool) -> u32
+    requires { ⌜ at + 4 ≤ length (now s) ⌝ }
+    ensures { λ r. ⌜ r ≡ numberOf big 4 (now (s .entry)) at ⌝ }
+{
+    match wire::parse_u32(s, at, big) {
+        U32Ans::Done(four) => four.v,
+        U32Ans::Need(_) => 0,
+    }
+}
+
+// The identifier at a place.
+fn id_at(s: &[u8], at: usize) -> Range
+    requires { ⌜ at + 4 ≤ length (now s) ⌝ }
+    ensures { λ r. ⌜ r ≡ textOf 4 (now (s .entry)) at ⌝ }
+{
+    match strings::identifier(s, at) {
+        RangeAns::Done(id) => id.v,
+        RangeAns::Need(_) => Range { start: at, len: 0 },
+    }
+}
+
+// The place behind four bytes that are there if `present`.
+fn behind_if(at: usize, present: bool) -> usize
+    requires { ⌜ at + 4 < 18446744073709551616 ⌝ }
+    ensures { λ r. ⌜ (r ≡ behind present at) × (r ≤ at + 4) ⌝ }
+{
+    if present { at + 4 } else { at }
+}
+
+// What is declared, less all headers.
+fn payload_length(typ: u8, declared: u16) -> u16
+    ensures { λ r. ⌜ r ≡ declared - allHeaders typ ⌝ }
+{
+    let all = headertype::calculate_all_headers_length(typ);
+    if all <= declared { declared - all } else { 0 }
+}
+
+fn put_range_if(out: &mut [u64], n: usize, s: &[u8], at: usize, present: bool)
+    requires { ⌜ (n + 3 ≤ length (now out)) × (at + 4 ≤ length (now s)) ⌝ }
+    ensures { λ _. ⌜ now (out .exit) ≡ over (now (out .entry)) n (rangeNumbers (idIf present (now (s .entry)) at)) ⌝ }
+{
+    if present {
+        let id = id_at(s, at);
+        put3(out, n, 1, id.start as u64, id.len as u64)
+    } else {
+        put3(out, n, 0, 0, 0)
+    }
+}
+
+fn put_num_if(out: &mut [u64], n: usize, s: &[u8], at: usize, present: bool)
+    requires { ⌜ (n + 2 ≤ length (now out)) × (at + 4 ≤ length (now s)) ⌝ }
+    ensures { λ _. ⌜ now (out .exit) ≡ over (now (out .entry)) n (numNumbers (numberIf present (now (s .entry)) at)) ⌝ }
+{
+    if present {
+        let v = word_at(s, at, true);
+        put2(out, n, 1, v as u64)
+    } else {
+        put2(out, n, 0, 0)
+    }
+}
+
+fn put_stored_at(out: &mut [u64], s: &[u8], place: usize)
+    requires { ⌜ (33 ≤ length (now out)) × (place + 16 ≤ length (now s)) ⌝ }
+    ensures { λ _. ⌜ now (out .exit) ≡ over (now (out .entry)) 2 (storageNumbers (storedAt (now (s .entry)) place)) ⌝ }
+{
+    let seconds = word_at(s, place + 4, false);
+    let microseconds = word_at(s, place + 8, false);
+    let ecu = id_at(s, place + 12);
+    put6(
+        out,
+        2,
+        1,
+        seconds as u64,
+        microseconds as u64,
+        ecu.start as u64,
+        ecu.len as u64,
+        place as u64,
+    );
+}
+
+fn put_front_at(out: &mut [u64], s: &[u8], at: usize, typ: u8, declared: u16)
+    requires { ⌜ (33 ≤ length (now out)) × (at + 16 ≤ length (now s)) ⌝ }
+    ensures { λ _. ⌜ now (out .exit) ≡ over (now (out .entry)) 8 (frontNumbers (standardAt typ declared (now (s .entry)) at)) ⌝ }
+{
+    let counter = byte_at(s, at + 1);
+    put4(
+        out,
+        8,
+        (typ / 32) as u64,
+        (typ / 2 % 2) as u64,
+        (typ / 1 % 2) as u64,
+        counter as u64,
+    );
+}
+
+fn put_standard_at(out: &mut [u64], s: &[u8], at: usize, typ: u8, declared: u16)
+    requires { ⌜ (33 ≤ length (now out)) × (at + 16 ≤ length (now s)) ⌝ }
+    ensures { λ _. ⌜ now (out .exit) ≡ over (now (out .entry)) 8 (standardNumbers (standardAt typ declared (now (s .entry)) at)) ⌝ }
+{
+    let session = behind_if(at + 4, typ / 4 % 2 == 1);
+    let time = behind_if(session, typ / 8 % 2 == 1);
+    put_front_at(out, s, at, typ, declared);
+    put_range_if(out, 12, s, at + 4, typ / 4 % 2 == 1);
+    put_num_if(out, 15, s, session, typ / 8 % 2 == 1);
+    put_num_if(out, 17, s, time, typ / 16 % 2 == 1);
+}
+
+// Where the extended header stands, if there is one, behind a standard header.
+fn extended_place(typ: u8, at: usize) -> usize
+    requires { ⌜ at + 16 < 18446744073709551616 ⌝ }
+    ensures { λ r. ⌜ (r ≡ extendedPlace typ at) × (r ≤ at + 16) ⌝ }
+{
+    let session = behind_if(at + 4, typ / 4 % 2 == 1);
+    let time = behind_if(session, typ / 8 % 2 == 1);
+    behind_if(time, typ / 16 % 2 == 1)
+}
+
+fn put_extended_at(out: &mut [u64], s: &[u8], at: usize, present: bool)
+    requires { ⌜ (33 ≤ length (now out)) × (at + 10 ≤ length (now s)) ⌝ }
+    ensures { λ _. ⌜ now (out .exit) ≡ over (now (out .entry)) 19 (extendedNumbers (extendedIf present (now (s .entry)) at)) ⌝ }
+{
+    if present {
+        let info = byte_at(s, at);
+        let count = byte_at(s, at + 1);
+        let app = id_at(s, at + 2);
+        let context = id_at(s, at + 6);
+        put9(
+            out,
+            19,
+            1,
+            (info / 1 % 2) as u64,
+            count as u64,
+            (info / 2 % 8) as u64,
+            (info / 16) as u64,
+            app.start as u64,
+            app.len as u64,
+            context.start as u64,
+            context.len as u64,
+        );
+    } else {
+        put9(out, 19, 0, 0, 0, 0, 0, 0, 0, 0, 0);
+    }
+}
+
+fn put_lead_at(out: &mut [u64], s: &[u8], o: Outline)
+    requires { ⌜ (33 ≤ length (now out)) × (o .place + 42 ≤ length (now s)) ⌝ }
+    ensures { λ _. ⌜ now (out .exit) ≡ over (now (out .entry)) 0 (leadNumbers (storedAt (now (s .entry)) (o .place)) (standardAt (o .«header_type») (o .length) (now (s .entry)) (o .place + 16))) ⌝ }
+{
+    let n = payload_length(o.header_type, o.length);
+    put2(out, 0, 0, n as u64);
+    put_stored_at(out, s, o.place);
+    put_standard_at(out, s, o.place + 16, o.header_type, o.length);
+}
+
+// An item whose headers stand where an outline says. Where they don't all lie within the bytes, or the slice is too short, it is left as it is.
+pub fn put_outlined(out: &mut [u64], s: &[u8], o: Outline, content: PayloadContent)
+    ensures { λ _. ⌜ now (out .exit) ≡ outlinedLaid (now (out .entry)) (now (s .entry)) o content ⌝ }
+{
+    let rest = wire::left(s, o.place);
+    if 42 <= rest {
+        if 33 <= out.len() {
+            let at = extended_place(o.header_type, o.place + 16);
+            put_lead_at(out, s, o);
+            put_extended_at(out, s, at, o.header_type / 1 % 2 == 1);
+            put_payload(out, content);
+        }
     }
 }
 

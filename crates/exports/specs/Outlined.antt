@@ -1,0 +1,25 @@
+-- What is answered of a message that was told at a glance (crate outline), by what its payload reads as, and what is left in the lent slice.
+use Prim.Native.Nat.{ℕ, _+_, _-_}
+use mathlib.Core.List.{List}
+use Rattle.wire.specs.Answer.{Ans}
+use Rattle.wire.specs.Answer.Ans.{done, need, hickup, broken}
+use Rattle.headertype.specs.Bits.{flag}
+use Rattle.headertype.specs.HeaderType.{allHeaders}
+use Rattle.payload.specs.Payload.{payload}
+use Rattle.payload.specs.declared.PayloadContent.{PayloadContent}
+use Rattle.outline.specs.There.{extendedPlace, extendedIf}
+use Rattle.outline.specs.declared.Outline.{Outline}
+use Rattle.numbers.specs.Outlined.{outlinedLaid}
+use Rattle.exports.specs.Calls.{Outcome, told}
+
+unfoldable pub outlinedShown : List ℕ → List ℕ → Outline → Ans PayloadContent → Outcome
+outlinedShown T s o (done p b) = told 0 0 b (outlinedLaid T s o p)
+outlinedShown T s o (need n) = told 2 n 0 T
+outlinedShown T s o (hickup r) = told 3 r 0 T
+outlinedShown T s o broken = told 4 0 0 T
+
+-- the payload behind all headers
+unfoldable pub outlinedPayload : List ℕ → Outline → Ans PayloadContent
+outlinedPayload s o =
+    payload (flag 2 (o .«header_type»)) (extendedIf (flag 1 (o .«header_type»)) s (extendedPlace (o .«header_type») (o .place + 16))) (o .length - allHeaders (o .«header_type»)) s
+    (o .place + 16 + allHeaders (o .«header_type»))

@@ -1,0 +1,13 @@
+-- `numbers::byte_at` meets its contract: `search` goes through the rule as the code does.
+-- Assumes nothing.
+use borrow.Author.Needs.{needs}
+use Rattle.numbers.proofs.Outlined.{outlined}
+use Rattle.numbers.proofs.byte_at.Statement.{statement}
+use Rattle.numbers.proofs.byte_at.Tie as tie
+
+pub byte-at-spec : {M : Type 1} → statement M
+byte-at-spec =
+    tie.close
+    (tie.spec
+    (λ c. search needs)
+    (λ c. search outlined depth 20))
