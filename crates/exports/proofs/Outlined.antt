@@ -42,7 +42,7 @@ use Rattle.outline.specs.declared.Outline.{Outline}
 use Rattle.outline.specs.declared.OutlineAns.{OutlineAns}
 use Rattle.outline.proofs.There.{number-there, headers-end}
 use Rattle.outline.proofs.Pass.{all-pass}
-use Rattle.outline.proofs.Seen.{Seen, seen-of, refused-of, seen-routed, refused-routed}
+use Rattle.outline.proofs.Seen.{Seen, seen-of, refused-of, missed-of, seen-routed, refused-routed, missed-routed}
 use Rattle.numbers.specs.Layout.{messageLaid}
 use Rattle.numbers.specs.Outlined.{outlinedItem, outlinedLaid}
 use Rattle.exports.specs.Calls.{Outcome, told, messageShown}
@@ -281,4 +281,8 @@ module _ (T X : List ℕ) (a : Answer) (f : List ℕ) (filter : Filter) (stored 
   unfolding messageShown message
   glance-hickup i q d = rw (is-stored, then-hickup (routed f filter true) body s 0 (refused-routed f filter s i (refused-of s r e i q)), d)
 
-pub ruleset outlined = (list-trace, list-verbose, hand-list-done, hand-list-need, hand-list-hickup, hand-control-done, hand-control-short, hand-plain-short, hand-plain-done, hand-plain-need, by-verbose, by-control, by-plain, outline-extended, outline-plain, glanced, glance-done, glance-hickup)
+  pub glance-nowhere : (n : ℕ) → r ≡ OutlineAns.Nowhere n → a ≡ numbers 2 n 0 → messageShown T (parse.Answer.answered (message f filter stored s 0)) ≡ left a T
+  unfolding messageShown message
+  glance-nowhere n q d = rw (is-stored, then-need (routed f filter true) body s 0 (missed-routed f filter s n (missed-of s r e n q)), d)
+
+pub ruleset outlined = (list-trace, list-verbose, hand-list-done, hand-list-need, hand-list-hickup, hand-control-done, hand-control-short, hand-plain-short, hand-plain-done, hand-plain-need, by-verbose, by-control, by-plain, outline-extended, outline-plain, glanced, glance-done, glance-hickup, glance-nowhere)
