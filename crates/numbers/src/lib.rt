@@ -16,7 +16,7 @@ ghost use Rattle.messageinfo.specs.Level.{number};
 ghost use Rattle.parse.specs.Message.{itemOf};
 ghost use Rattle.parse.specs.declared.ParsedMessage.{ParsedMessage};
 ghost use Rattle.numbers.specs.Layout.{oneIf, orderNumber, rangeNumbers, numNumbers, storageNumbers, frontNumbers, standardNumbers, extendedNumbers, payloadNumbers, leadNumbers, messageLaid};
-ghost use Rattle.numbers.specs.Outlined.{outlinedLaid};
+ghost use Rattle.numbers.specs.Outlined.{letterAt, outlinedLaid};
 ghost use Rattle.numbers.specs.Arguments.{signedBits, lengthBits, widthBits, kindNumber, kindBits, codingNumber, valueNumber, valueFirst, valueSecond, offsetWidth, offsetBits, kindNumbers, codingNumbers, pointNumbers, valueNumbers, typeNumbers, nameNumbers, contentNumbers, argumentNumbers, argumentLaid};
 use dlt::Argument;
 use dlt::FixedPointValue;
@@ -395,8 +395,19 @@ fn word_at(s: &[u8], at: usize, big: bool) -> u32
     }
 }
 
-// The identifier at a place.
-fn id_at(s: &[u8], at: usize) -> Range
+// Whether a letter stands at a place, a byte from 1 to 7F.
+fn letter_at(s: &[u8], at: usize) -> bool
+    requires { ⌜ at + 1 ≤ length (now s) ⌝ }
+    ensures { λ r. ⌜ r ≡ letterAt (now (s .entry)) at ⌝ }
+{
+    if s[at] == 0 {
+        return false;
+    }
+    s[at] <= 0x7F
+}
+
+// The identifier at a place, whatever its bytes are.
+fn any_id_at(s: &[u8], at: usize) -> Range
     requires { ⌜ at + 4 ≤ length (now s) ⌝ }
     ensures { λ r. ⌜ r ≡ textOf 4 (now (s .entry)) at ⌝ }
 {
@@ -404,6 +415,23 @@ fn id_at(s: &[u8], at: usize) -> Range
         RangeAns::Done(id) => id.v,
         RangeAns::Need(_) => Range { start: at, len: 0 },
     }
+}
+
+// The same. Most are four letters.
+fn id_at(s: &[u8], at: usize) -> Range
+    requires { ⌜ at + 4 ≤ length (now s) ⌝ }
+    ensures { λ r. ⌜ r ≡ textOf 4 (now (s .entry)) at ⌝ }
+{
+    if letter_at(s, at) {
+        if letter_at(s, at + 1) {
+            if letter_at(s, at + 2) {
+                if letter_at(s, at + 3) {
+                    return Range { start: at, len: 4 };
+                }
+            }
+        }
+    }
+    any_id_at(s, at)
 }
 
 // The place behind four bytes that are there if `present`.
