@@ -5,11 +5,11 @@ use mathlib.Core.Path.{_≡_, refl, sym, ap, _∙_}
 use mathlib.Core.Bool.{Bool, true, false}
 use mathlib.Core.List.{List}
 use lib.ListN.{length, getD}
-use lib.Dec.{leb, eqb}
+use lib.Dec.{eqb}
 use borrow.Author.Tests.{le-leb, lt-leb, eq-eqb, ne-eqb}
 use Rattle.wire.specs.Answer.{Ans}
 use Rattle.wire.specs.Answer.Ans.{done, need, hickup, broken}
-use Rattle.wire.specs.Parser.{pick, follow, ret, here, fail, choose, _>>=_}
+use Rattle.wire.specs.Parser.{pick, follow, ret, here, choose, _>>=_}
 use Rattle.wire.specs.Number.{numberOf, number, u32Ans}
 use Rattle.wire.specs.Run.{range, bytes}
 use Rattle.wire.specs.declared.U32Ans.{U32Ans}
@@ -45,7 +45,7 @@ use Rattle.outline.proofs.Pass.{all-pass}
 use Rattle.outline.proofs.Seen.{Seen, seen-of, refused-of, missed-of, seen-routed, refused-routed, missed-routed}
 use Rattle.numbers.specs.Layout.{messageLaid}
 use Rattle.numbers.specs.Outlined.{outlinedItem, outlinedLaid}
-use Rattle.exports.specs.Calls.{Outcome, told, messageShown}
+use Rattle.exports.specs.Calls.{Outcome, messageShown}
 use Rattle.exports.specs.Outlined.{outlinedShown, outlinedPayload}
 use Rattle.exports.specs.declared.Answer.{Answer}
 use Rattle.exports.proofs.Reading.{numbers, left}

@@ -22,8 +22,6 @@ use Rattle.strings.proofs.Strings.{letters-all}
 use Rattle.headertype.specs.Bits.{flag}
 use Rattle.headertype.specs.HeaderType.{allHeaders}
 use Rattle.headertype.specs.declared.Endianness.{Endianness}
-use Rattle.messageinfo.specs.MessageInfo.{messageTypeOf}
-use Rattle.messageinfo.specs.Kept.{typeNumber, subtypeNumber}
 use Rattle.messageinfo.proofs.Bytes.{type-kept, subtype-kept}
 use Rattle.headers.specs.Standard.{endianOf, headerOf}
 use Rattle.headers.specs.Extended.{extendedOf}
@@ -34,7 +32,7 @@ use Rattle.parse.specs.Message.{itemOf}
 use Rattle.outline.specs.There.{behind, idIf, numberIf, standardAt, extendedPlace, extendedAt, extendedIf, storedAt}
 use Rattle.outline.specs.declared.Outline.{Outline}
 use Rattle.outline.proofs.There.{number-there, id-there}
-use Rattle.numbers.specs.Layout.{oneIf, orderNumber, rangeNumbers, numNumbers, storageNumbers, frontNumbers, standardNumbers, extendedNumbers, payloadNumbers, leadNumbers, messageLaid}
+use Rattle.numbers.specs.Layout.{oneIf, orderNumber, rangeNumbers, numNumbers, storageNumbers, frontNumbers, standardNumbers, extendedNumbers, payloadNumbers, leadNumbers}
 use Rattle.numbers.specs.Outlined.{letterAt, outlinedItem, outlinedLaid}
 use Rattle.numbers.proofs.Rows.{standard-row, lead-row, item-row, message-short}
 
