@@ -42,6 +42,7 @@ use Rattle.outline.specs.declared.Outline.{Outline}
 use Rattle.outline.specs.declared.OutlineAns.{OutlineAns}
 use Rattle.outline.proofs.There.{number-there, headers-end}
 use Rattle.outline.proofs.Pass.{all-pass}
+use Rattle.step.proofs.Glance.{byte-number, control-type, big-order}
 use Rattle.outline.proofs.Seen.{Seen, seen-of, refused-of, missed-of, seen-routed, refused-routed, missed-routed}
 use Rattle.numbers.specs.Layout.{messageLaid}
 use Rattle.numbers.specs.Outlined.{outlinedItem, outlinedLaid}
@@ -94,12 +95,6 @@ module _ (T : List ℕ) (s : List ℕ) (o : Outline) (a : Answer) (at : ℕ) (bi
   hand-list-hickup m q e = shown-hickup T T s o a _ m (step here _ s at (here-is s at) (then-hickup (arguments big n) _ s at (wire.told passAns d q))) e
 
 -- ---- a payload of n bytes that are there
-byte-number : (s : List ℕ) (at : ℕ) → numberOf true 1 s at ≡ getD s at 0
-unfolding numberOf
-byte-number s at =
-    let e : at + 0 ≡ at = omega arith in
-    rw e (omega arith)
-
 bytes-there : (s : List ℕ) (p n : ℕ) → p + n ≤ length s → bytes n s p ≡ done (range p n) (p + n)
 unfolding bytes
 bytes-there s p n h = fixed-done n (λ s at. range at n) s p (omega arith)
@@ -145,16 +140,6 @@ module _ (T X : List ℕ) (s : List ℕ) (o : Outline) (a : Answer) (at n : ℕ)
       hand-plain-need m q e = shown-need T T s o a _ m (choose-true _ _ s at (le-leb 4 n h) ∙ then-need (number big 4) _ s at (wire.told u32Ans d q)) e
 
 -- ---- by the message info
-control-type : (t n : ℕ) → controlType (messageTypeBy t n) ≡ eqb t 3
-unfolding controlType messageTypeBy
-control-type zero n = refl
-control-type (suc zero) n = refl
-control-type (suc (suc zero)) n = refl
-control-type (suc (suc (suc zero))) n = refl
-control-type (suc (suc (suc (suc t)))) n =
-    let m = suc (suc (suc (suc t))) in
-    rw (ne-eqb m 0 (λ e. omega arith), ne-eqb m 1 (λ e. omega arith), ne-eqb m 2 (λ e. omega arith), ne-eqb m 3 (λ e. omega arith))
-
 network-type : (t n : ℕ) → networkType (messageTypeBy t n) ≡ eqb t 2
 unfolding networkType messageTypeBy
 network-type zero n = refl
@@ -227,14 +212,6 @@ module _ (s : List ℕ) (o : Outline) (w : outlineOf s ≡ OutlineAns.Done o) wh
   fits-at = seen .lies
 
 -- ---- what is shown of an outline is what is shown of the message
-big-order : (t : ℕ) → isBig (endianOf t) ≡ flag 2 t
-unfolding endianOf isBig
-big-order t = by (flag 2 t)
-  where
-    by : (b : Bool) → isBig (pick b Endianness.Big Endianness.Little) ≡ b
-    by true = refl
-    by false = refl
-
 module _ (T : List ℕ) (f : List ℕ) (filter : Filter) (s : List ℕ) (o : Outline) (byte : o .«header_type» < 256) (w : outlineOf s ≡ OutlineAns.Done o) where
   abbrev at : ℕ
   at = o .place + 16 + allHeaders (o .«header_type»)

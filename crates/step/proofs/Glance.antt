@@ -105,13 +105,13 @@ module _ (s : List ℕ) (o : Outline) (w : outlineOf s ≡ OutlineAns.Done o) wh
   fits-at a e = omega (arith, long-at a e, seen .lies)
 
 -- ---- what is heard at a glance is what the rule says of the payload
-byte-number : (s : List ℕ) (at : ℕ) → numberOf true 1 s at ≡ getD s at 0
+pub byte-number : (s : List ℕ) (at : ℕ) → numberOf true 1 s at ≡ getD s at 0
 unfolding numberOf
 byte-number s at =
     let e : at + 0 ≡ at = omega arith in
     rw e (omega arith)
 
-control-type : (t n : ℕ) → controlType (messageTypeBy t n) ≡ eqb t 3
+pub control-type : (t n : ℕ) → controlType (messageTypeBy t n) ≡ eqb t 3
 unfolding controlType messageTypeBy
 control-type zero n = refl
 control-type (suc zero) n = refl
@@ -121,7 +121,7 @@ control-type (suc (suc (suc (suc t)))) n =
     let m = suc (suc (suc (suc t))) in
     rw (ne-eqb m 0 (λ e. omega arith), ne-eqb m 1 (λ e. omega arith), ne-eqb m 2 (λ e. omega arith), ne-eqb m 3 (λ e. omega arith))
 
-big-order : (t : ℕ) → isBig (endianOf t) ≡ flag 2 t
+pub big-order : (t : ℕ) → isBig (endianOf t) ≡ flag 2 t
 unfolding endianOf isBig
 big-order t = by (flag 2 t)
   where
