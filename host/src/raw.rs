@@ -26,14 +26,37 @@ pub struct IndexAnswer {
 
 mod archive {
     use super::{Answer, IndexAnswer};
-    extern "C" {
-        pub fn dlt_message(s: *const u8, s_len: usize, f: *const u8, f_len: usize, storage: bool, out: *mut u64, out_len: usize) -> Answer;
-        pub fn dlt_argument(s: *const u8, s_len: usize, at: usize, left: usize, big: bool, out: *mut u64, out_len: usize) -> Answer;
-        pub fn dlt_forward_to_next_storage_header(s: *const u8, s_len: usize, at: usize) -> Answer;
-        pub fn dlt_consume_msg(s: *const u8, s_len: usize) -> Answer;
-        pub fn dlt_construct_arguments(big: bool, words: *const u32, words_len: usize, data: *const u8, data_len: usize) -> Answer;
-        pub fn dlt_signal(words: *const u32, words_len: usize, data: *const u8, data_len: usize, at: usize, word: usize, big: bool, out: *mut u64, out_len: usize) -> Answer;
-        pub fn dlt_index(s: *const u8, s_len: usize, f: *const u8, f_len: usize, at: usize, used: usize, table: *mut u64, table_len: usize, n: usize) -> IndexAnswer;
+
+    // The archive is x86-64 code, where C passes the place of a struct that is returned before the arguments. Compiled for another machine, which is for
+    // measuring alone, it still takes that place first, so there it is passed by hand.
+    macro_rules! calls {
+        ($($name:ident($($arg:ident: $type:ty),*) -> $answer:ty;)*) => {
+            #[cfg(target_arch = "x86_64")]
+            extern "C" {
+                $(pub fn $name($($arg: $type),*) -> $answer;)*
+            }
+            $(
+                #[cfg(not(target_arch = "x86_64"))]
+                pub unsafe fn $name($($arg: $type),*) -> $answer {
+                    extern "C" {
+                        fn $name(answer: *mut $answer, $($arg: $type),*) -> *mut $answer;
+                    }
+                    let mut answer = std::mem::MaybeUninit::uninit();
+                    $name(answer.as_mut_ptr(), $($arg),*);
+                    answer.assume_init()
+                }
+            )*
+        };
+    }
+
+    calls! {
+        dlt_message(s: *const u8, s_len: usize, f: *const u8, f_len: usize, storage: bool, out: *mut u64, out_len: usize) -> Answer;
+        dlt_argument(s: *const u8, s_len: usize, at: usize, left: usize, big: bool, out: *mut u64, out_len: usize) -> Answer;
+        dlt_forward_to_next_storage_header(s: *const u8, s_len: usize, at: usize) -> Answer;
+        dlt_consume_msg(s: *const u8, s_len: usize) -> Answer;
+        dlt_construct_arguments(big: bool, words: *const u32, words_len: usize, data: *const u8, data_len: usize) -> Answer;
+        dlt_signal(words: *const u32, words_len: usize, data: *const u8, data_len: usize, at: usize, word: usize, big: bool, out: *mut u64, out_len: usize) -> Answer;
+        dlt_index(s: *const u8, s_len: usize, f: *const u8, f_len: usize, at: usize, used: usize, table: *mut u64, table_len: usize, n: usize) -> IndexAnswer;
     }
 }
 

@@ -32,22 +32,22 @@ use Rattle.cursor.specs.declared.PassAns.{PassAns}
 use Rattle.payload.specs.Payload.{isVerbose, countOf, isNetwork, isControl, controlType, networkType, listOf, verbose, control, plain, payload}
 use Rattle.payload.specs.declared.PayloadContent.{PayloadContent}
 use Rattle.parse.specs.Message as parse
-use Rattle.parse.specs.Message.{routed, item, body, message, isBig, itemOf, headersOf}
+use Rattle.parse.specs.Message.{routed, passed, item, body, message, isBig, itemOf, headersOf}
 use Rattle.parse.specs.declared.Headers.{Headers}
 use Rattle.parse.specs.declared.ParsedMessage.{ParsedMessage}
 use Rattle.outline.specs.There.{extendedPlace, extendedIf, extendedAt, standardAt, headersAt}
 use Rattle.outline.specs.Outline.{outlineOf}
-use Rattle.outline.specs.Pass.{letsAllPass}
 use Rattle.outline.specs.declared.Outline.{Outline}
 use Rattle.outline.specs.declared.OutlineAns.{OutlineAns}
 use Rattle.outline.proofs.There.{number-there, headers-end}
-use Rattle.outline.proofs.Pass.{all-pass}
 use Rattle.step.proofs.Glance.{byte-number, control-type, big-order}
 use Rattle.outline.proofs.Seen.{Seen, seen-of, refused-of, missed-of, seen-routed, refused-routed, missed-routed}
+use Rattle.verdict.specs.Drops.{dropsOutline}
+use Rattle.verdict.proofs.Said.{outline-passed, verdict-said}
 use Rattle.numbers.specs.Layout.{messageLaid}
 use Rattle.numbers.specs.Outlined.{outlinedItem, outlinedLaid}
-use Rattle.exports.specs.Calls.{Outcome, messageShown}
-use Rattle.exports.specs.Outlined.{outlinedShown, outlinedPayload}
+use Rattle.exports.specs.Calls.{Outcome, told, messageShown}
+use Rattle.exports.specs.Outlined.{outlinedShown, outlinedPayload, droppedShown}
 use Rattle.exports.specs.declared.Answer.{Answer}
 use Rattle.exports.proofs.Reading.{numbers, left}
 
@@ -187,32 +187,32 @@ module _ (T : List ℕ) (s : List ℕ) (o : Outline) (a : ℕ) (is-all : a ≡ a
   abbrev t : ℕ
   t = o .«header_type»
 
+  payload-extended : o .«header_type» / 1 % 2 ≡ 1
+      → outlinedPayload s o ≡ payload (flag 2 t) (OptExtended.Present (extendedAt s (o .place + 16 + a - 10))) (o .length - a) s (o .place + 16 + a)
+  unfolding outlinedPayload
+  payload-extended h =
+      ap (λ (y : OptExtended). payload (flag 2 t) y (o .length - allHeaders t) s (o .place + 16 + allHeaders t)) (sym (extended-same s t (o .place) a is-all (eq-eqb _ _ h)))
+      ∙ ap (λ (m : ℕ). payload (flag 2 t) (OptExtended.Present (extendedAt s (o .place + 16 + a - 10))) (o .length - m) s (o .place + 16 + m)) (sym is-all)
+
+  payload-plain : (o .«header_type» / 1 % 2 ≡ 1 → ⊥) → outlinedPayload s o ≡ plain (flag 2 t) (o .length - a) s (o .place + 16 + a)
+  unfolding outlinedPayload
+  payload-plain h = rw (ne-eqb _ _ h, ← is-all) (plain-absent (flag 2 t) (o .length - a) s (o .place + 16 + a))
+
   pub outline-extended : o .«header_type» / 1 % 2 ≡ 1
       → outlinedShown T s o (payload (flag 2 (o .«header_type»)) (OptExtended.Present (extendedAt s (o .place + 16 + a - 10))) (o .length - a) s (o .place + 16 + a)) ≡ x
       → outlinedShown T s o (outlinedPayload s o) ≡ x
-  unfolding outlinedPayload
-  outline-extended h e =
-      ap (λ (y : OptExtended). outlinedShown T s o (payload (flag 2 t) y (o .length - allHeaders t) s (o .place + 16 + allHeaders t))) (sym (extended-same s t (o .place) a is-all (eq-eqb _ _ h)))
-      ∙ ap (λ (m : ℕ). outlinedShown T s o (payload (flag 2 t) (OptExtended.Present (extendedAt s (o .place + 16 + a - 10))) (o .length - m) s (o .place + 16 + m))) (sym is-all) ∙ e
+  outline-extended h e = ap (outlinedShown T s o) (payload-extended h) ∙ e
 
   pub outline-plain : (o .«header_type» / 1 % 2 ≡ 1 → ⊥) → outlinedShown T s o (plain (flag 2 (o .«header_type»)) (o .length - a) s (o .place + 16 + a)) ≡ x
       → outlinedShown T s o (outlinedPayload s o) ≡ x
-  unfolding outlinedPayload
-  outline-plain h e = rw (ne-eqb _ _ h, ← is-all) (ap (outlinedShown T s o) (plain-absent (flag 2 t) (o .length - a) s (o .place + 16 + a)) ∙ e)
+  outline-plain h e = ap (outlinedShown T s o) (payload-plain h) ∙ e
 
--- the sizes that the code adds
-module _ (s : List ℕ) (o : Outline) (w : outlineOf s ≡ OutlineAns.Done o) where
-  seen : Seen s o
-  seen = seen-of s (outlineOf s) refl o w
-
-  pub long-at : (a : ℕ) → a ≡ allHeaders (o .«header_type») → a ≤ o .length
-  long-at a e = rw e (seen .long)
-
-  pub fits-at : o .place + 16 + o .length ≤ length s
-  fits-at = seen .lies
+  pub outline-filtered : (X : List ℕ) (b : Answer) → b ≡ numbers 0 0 (o .place + 16 + o .length) → X ≡ messageLaid T (ParsedMessage.FilteredOut (o .length - a)) → droppedShown T o ≡ left b X
+  unfolding droppedShown
+  outline-filtered X b d g = rw (d, g, is-all)
 
 -- ---- what is shown of an outline is what is shown of the message
-module _ (T : List ℕ) (f : List ℕ) (filter : Filter) (s : List ℕ) (o : Outline) (byte : o .«header_type» < 256) (w : outlineOf s ≡ OutlineAns.Done o) where
+module _ (T : List ℕ) (f : List ℕ) (filter : Filter) (s : List ℕ) (o : Outline) (byte : o .«header_type» < 256) (v : Seen s o) where
   abbrev at : ℕ
   at = o .place + 16 + allHeaders (o .«header_type»)
 
@@ -222,8 +222,8 @@ module _ (T : List ℕ) (f : List ℕ) (filter : Filter) (s : List ℕ) (o : Out
   laid : (p : PayloadContent) → outlinedLaid T s o p ≡ messageLaid T (itemOf h p)
   unfolding outlinedLaid outlinedItem itemOf headersAt headersOf
   laid p =
-      let v = seen s o w .there in
-      rw (le-leb 42 (length s - o .place) (omega (arith, v)))
+      let u = v .there in
+      rw (le-leb 42 (length s - o .place) (omega (arith, u)))
 
   shown-item : (x : Ans PayloadContent) → outlinedShown T s o x ≡ messageShown T (parse.Answer.answered (follow x (λ p. ret (itemOf h p)) s))
   unfolding outlinedShown messageShown ret
@@ -236,30 +236,54 @@ module _ (T : List ℕ) (f : List ℕ) (filter : Filter) (s : List ℕ) (o : Out
   unfolding item _>>=_ outlinedPayload headersAt headersOf standardAt headerOf
   item-is = rw (big-order (o .«header_type»))
 
-  message-is : letsAllPass filter ≡ true → message f filter true s 0 ≡ item h s at
-  unfolding message body headersAt headersOf
-  message-is e =
-      then-done (routed f filter true) body s 0 (seen-routed f filter s o byte (seen s o w))
-      ∙ choose-false _ _ s at (all-pass f s _ filter _ e)
+  message-is : message f filter true s 0 ≡ body h s at
+  unfolding message
+  message-is = then-done (routed f filter true) body s 0 (seen-routed f filter s o byte v)
 
-  outline-shown : letsAllPass filter ≡ true → outlinedShown T s o (outlinedPayload s o) ≡ messageShown T (parse.Answer.answered (message f filter true s 0))
-  outline-shown e = shown-item (outlinedPayload s o) ∙ ap (λ (x : Ans ParsedMessage). messageShown T (parse.Answer.answered x)) (sym (message-is e ∙ item-is))
+  item-shown : h .filtered ≡ false → outlinedShown T s o (outlinedPayload s o) ≡ messageShown T (parse.Answer.answered (message f filter true s 0))
+  unfolding body
+  item-shown q =
+      shown-item (outlinedPayload s o)
+      ∙ ap (λ (x : Ans ParsedMessage). messageShown T (parse.Answer.answered x)) (sym (message-is ∙ choose-false _ _ s at q ∙ item-is))
 
--- ---- as the code has it: r is what a glance gave, b that the filter lets all pass
-pub glanced : (s : List ℕ) (r : OutlineAns) (o : Outline) → r ≡ outlineOf s → r ≡ OutlineAns.Done o → outlineOf s ≡ OutlineAns.Done o
-glanced s r o e q = sym e ∙ q
+  dropped-is : h .filtered ≡ true → body h s at ≡ done (ParsedMessage.FilteredOut (o .length - allHeaders (o .«header_type»))) (o .place + 16 + o .length)
+  unfolding body passed headersAt headersOf standardAt headerOf
+  dropped-is q =
+      let n = o .length - allHeaders (o .«header_type») in
+      let p : at + n ≡ o .place + 16 + o .length = omega (arith, v .long) in
+      choose-true _ _ s at q ∙ step (bytes n) _ s at (bytes-there s at n (omega (arith, p, v .lies))) (ret-is _ s _) ∙ ap (done (ParsedMessage.FilteredOut n)) p
 
-module _ (T X : List ℕ) (a : Answer) (f : List ℕ) (filter : Filter) (stored : Bool) (s : List ℕ) (is-stored : stored ≡ true) (r : OutlineAns) (e : r ≡ outlineOf s) where
-  pub glance-done : (o : Outline) (b : Bool) → r ≡ OutlineAns.Done o → o .«header_type» < 256 → b ≡ letsAllPass filter → b ≡ true → outlinedShown T s o (outlinedPayload s o) ≡ left a X
-      → messageShown T (parse.Answer.answered (message f filter stored s 0)) ≡ left a X
-  glance-done o b q byte d z g = rw is-stored (sym (outline-shown T f filter s o byte (glanced s r o e q) (sym d ∙ z)) ∙ g)
+  dropped-shown : h .filtered ≡ true → droppedShown T o ≡ messageShown T (parse.Answer.answered (message f filter true s 0))
+  unfolding droppedShown messageShown
+  dropped-shown q = ap (λ (x : Ans ParsedMessage). messageShown T (parse.Answer.answered x)) (sym (message-is ∙ dropped-is q))
 
-  pub glance-hickup : (i : ℕ) → r ≡ OutlineAns.Hickup i → a ≡ numbers 3 1 0 → messageShown T (parse.Answer.answered (message f filter stored s 0)) ≡ left a T
-  unfolding messageShown message
-  glance-hickup i q d = rw (is-stored, then-hickup (routed f filter true) body s 0 (refused-routed f filter s i (refused-of s r e i q)), d)
+-- ---- as the code has it: r is what a glance gave, b the filter's verdict
+module _ (s : List ℕ) (r : OutlineAns) (e : r ≡ outlineOf s) where
+  pub glanced-long : (o : Outline) → r ≡ OutlineAns.Done o → allHeaders (o .«header_type») ≤ o .length
+  glanced-long o q = seen-of s r e o q .long
 
-  pub glance-nowhere : (n : ℕ) → r ≡ OutlineAns.Nowhere n → a ≡ numbers 2 n 0 → messageShown T (parse.Answer.answered (message f filter stored s 0)) ≡ left a T
-  unfolding messageShown message
-  glance-nowhere n q d = rw (is-stored, then-need (routed f filter true) body s 0 (missed-routed f filter s n (missed-of s r e n q)), d)
+  pub glanced-lies : (o : Outline) → r ≡ OutlineAns.Done o → o .place + 16 + o .length ≤ length s
+  glanced-lies o q = seen-of s r e o q .lies
 
-pub ruleset outlined = (list-trace, list-verbose, hand-list-done, hand-list-need, hand-list-hickup, hand-control-done, hand-control-short, hand-plain-short, hand-plain-done, hand-plain-need, by-verbose, by-control, by-plain, outline-extended, outline-plain, glanced, glance-done, glance-hickup, glance-nowhere)
+  module _ (T X : List ℕ) (a : Answer) (f : List ℕ) (filter : Filter) (stored : Bool) (is-stored : stored ≡ true) where
+    pub glance-done : (o : Outline) (b : Bool) → r ≡ OutlineAns.Done o → o .«header_type» < 256 → b ≡ dropsOutline f filter s o → b ≡ false → outlinedShown T s o (outlinedPayload s o) ≡ left a X
+        → messageShown T (parse.Answer.answered (message f filter stored s 0)) ≡ left a X
+    glance-done o b q byte d z g =
+        let v = seen-of s r e o q in
+        rw is-stored (sym (item-shown T f filter s o byte v (verdict-said f filter s o v b d ∙ z)) ∙ g)
+
+    pub glance-filtered : (o : Outline) (b : Bool) → r ≡ OutlineAns.Done o → o .«header_type» < 256 → b ≡ dropsOutline f filter s o → b ≡ true → droppedShown T o ≡ left a X
+        → messageShown T (parse.Answer.answered (message f filter stored s 0)) ≡ left a X
+    glance-filtered o b q byte d z g =
+        let v = seen-of s r e o q in
+        rw is-stored (sym (dropped-shown T f filter s o byte v (verdict-said f filter s o v b d ∙ z)) ∙ g)
+
+    pub glance-hickup : (i : ℕ) → r ≡ OutlineAns.Hickup i → a ≡ numbers 3 1 0 → messageShown T (parse.Answer.answered (message f filter stored s 0)) ≡ left a T
+    unfolding messageShown message
+    glance-hickup i q d = rw (is-stored, then-hickup (routed f filter true) body s 0 (refused-routed f filter s i (refused-of s r e i q)), d)
+
+    pub glance-nowhere : (n : ℕ) → r ≡ OutlineAns.Nowhere n → a ≡ numbers 2 n 0 → messageShown T (parse.Answer.answered (message f filter stored s 0)) ≡ left a T
+    unfolding messageShown message
+    glance-nowhere n q d = rw (is-stored, then-need (routed f filter true) body s 0 (missed-routed f filter s n (missed-of s r e n q)), d)
+
+pub ruleset outlined = (list-trace, list-verbose, hand-list-done, hand-list-need, hand-list-hickup, hand-control-done, hand-control-short, hand-plain-short, hand-plain-done, hand-plain-need, by-verbose, by-control, by-plain, outline-extended, outline-plain, outline-filtered, outline-passed, glance-done, glance-filtered, glance-hickup, glance-nowhere)

@@ -1,5 +1,3 @@
 pub mod There
 mod Reading
 pub mod Seen
-pub mod Pass
-mod Straight

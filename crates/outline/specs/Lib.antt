@@ -1,3 +1,2 @@
 pub mod There
 pub mod Outline
-pub mod Pass

@@ -39,12 +39,12 @@ use Rattle.parse.specs.Message.{routed, body, message, isBig, headersOf}
 use Rattle.parse.specs.declared.Headers.{Headers}
 use Rattle.outline.specs.There.{extendedPlace, extendedIf, extendedAt, ecuAt, standardAt, headersAt}
 use Rattle.outline.specs.Outline.{outlineOf}
-use Rattle.outline.specs.Pass.{letsAllPass}
 use Rattle.outline.specs.declared.Outline.{Outline}
 use Rattle.outline.specs.declared.OutlineAns.{OutlineAns}
 use Rattle.outline.proofs.There.{number-there, id-there, extended-there, headers-end, extended-place, declared-again}
-use Rattle.outline.proofs.Pass.{all-pass}
-use Rattle.outline.proofs.Seen.{Seen, Refused, seen-of, refused-of, missed-of, seen-routed, refused-routed, missed-routed}
+use Rattle.outline.proofs.Seen.{Seen, seen-of, refused-of, missed-of, seen-routed, refused-routed, missed-routed}
+use Rattle.verdict.specs.Drops.{dropsOutline}
+use Rattle.verdict.proofs.Said.{outline-passed, verdict-said}
 use Rattle.walk.specs.Walk.{Step, Wait, Take}
 use Rattle.step.specs.Step.{heard, heardPayload, heardDropped, skippedTo, lengthOf, asked}
 use Rattle.step.specs.Glance.{heardList, heardRun, heardExtended, heardOutline}
@@ -92,17 +92,6 @@ module _ (s : List ℕ) (o : Outline) (a : ℕ) (is-all : a ≡ allHeaders (o .�
   pub outline-plain : (o .«header_type» / 1 % 2 ≡ 1 → ⊥) → x ≡ heardRun 4 (o .length - a) (o .place) (16 + o .length) → x ≡ heardOutline s o
   unfolding heardOutline
   outline-plain h e = rw (ne-eqb _ _ h, ← is-all) e
-
--- ---- the sizes that the code adds: a is what a call gave for all headers
-module _ (s : List ℕ) (o : Outline) (w : outlineOf s ≡ OutlineAns.Done o) where
-  seen : Seen s o
-  seen = seen-of s (outlineOf s) refl o w
-
-  pub long-at : (a : ℕ) → a ≡ allHeaders (o .«header_type») → a ≤ o .length
-  long-at a e = rw e (seen .long)
-
-  pub fits-at : (a : ℕ) → a ≡ allHeaders (o .«header_type») → o .place + 16 + a ≤ length s
-  fits-at a e = omega (arith, long-at a e, seen .lies)
 
 -- ---- what is heard at a glance is what the rule says of the payload
 pub byte-number : (s : List ℕ) (at : ℕ) → numberOf true 1 s at ≡ getD s at 0
@@ -187,7 +176,7 @@ module _ (k l : ℕ) (s : List ℕ) (at : ℕ) where
     absent-heard big = plain-heard big
 
 -- the whole
-module _ (f : List ℕ) (filter : Filter) (s : List ℕ) (o : Outline) (byte : o .«header_type» < 256) (w : outlineOf s ≡ OutlineAns.Done o) where
+module _ (f : List ℕ) (filter : Filter) (s : List ℕ) (o : Outline) (byte : o .«header_type» < 256) (v : Seen s o) where
   abbrev t : ℕ
   t = o .«header_type»
 
@@ -203,7 +192,6 @@ module _ (f : List ℕ) (filter : Filter) (s : List ℕ) (o : Outline) (byte : o
   outline-asked : heard (o .place) (16 + o .length) (body h s at) ≡ asked f filter s
   unfolding asked message headersAt headersOf
   outline-asked =
-      let v = seen s o w in
       let r = seen-routed f filter s o byte v in
       rw (v .found, r, then-done (routed f filter true) body s 0 r, declared-again t (o .length) s (o .place + 16) byte (v .long))
 
@@ -215,36 +203,46 @@ module _ (f : List ℕ) (filter : Filter) (s : List ℕ) (o : Outline) (byte : o
           → heardPayload (o .place) (16 + o .length) (payload (flag 2 t) (extendedIf b s (extendedPlace t (o .place + 16))) (o .length - allHeaders t) s at)
           ≡ pick b (heardExtended (flag 2 t) (o .length - allHeaders t) (o .place) (16 + o .length) s at) (heardRun 4 (o .length - allHeaders t) (o .place) (16 + o .length))
       by true e =
-          let v = seen s o w in
           let z : pick (flag 1 t) (extendedPlace t (o .place + 16) + 10) (extendedPlace t (o .place + 16)) ≡ extendedPlace t (o .place + 16) + 10 = rw e in
           extended-heard (o .place) (16 + o .length) s at (o .length - allHeaders t) (omega (arith, v .long, v .lies)) (flag 2 t) (extendedPlace t (o .place + 16)) (omega (arith, z, headers-end t (o .place + 16)))
-      by false e =
-          let v = seen s o w in
-          absent-heard (o .place) (16 + o .length) s at (o .length - allHeaders t) (omega (arith, v .long, v .lies)) (flag 2 t)
+      by false e = absent-heard (o .place) (16 + o .length) s at (o .length - allHeaders t) (omega (arith, v .long, v .lies)) (flag 2 t)
 
-  item-at : letsAllPass filter ≡ true → heardOutline s o ≡ asked f filter s
+  item-at : h .filtered ≡ false → heardOutline s o ≡ asked f filter s
   unfolding headersAt headersOf standardAt headerOf
-  item-at e =
+  item-at q =
       sym outlined-heard
       ∙ ap (λ (b : Bool). heardPayload (o .place) (16 + o .length) (payload b extendedOutlined (o .length - allHeaders t) s at)) (sym (big-order t))
-      ∙ item-heard (o .place) (16 + o .length) h s at (all-pass f s _ filter _ e) ∙ outline-asked
+      ∙ item-heard (o .place) (16 + o .length) h s at q ∙ outline-asked
 
--- ---- as the code has it: r is what a glance gave, b that the filter lets all pass
-pub glanced : (s : List ℕ) (r : OutlineAns) (o : Outline) → r ≡ outlineOf s → r ≡ OutlineAns.Done o → outlineOf s ≡ OutlineAns.Done o
-glanced s r o e q = sym e ∙ q
+  dropped-at : h .filtered ≡ true → Take (o .place) (16 + o .length) 1 ≡ asked f filter s
+  unfolding headersAt headersOf standardAt headerOf
+  dropped-at q =
+      ap (heardDropped (o .place) (16 + o .length)) (sym (bytes-there (o .place) (16 + o .length) s at at (o .length - allHeaders t) (omega (arith, v .long, v .lies))))
+      ∙ dropped-heard (o .place) (16 + o .length) h s at q ∙ outline-asked
 
-module _ (f : List ℕ) (filter : Filter) (s : List ℕ) (r : OutlineAns) (e : r ≡ outlineOf s) where
-  pub asked-outline : (o : Outline) (b : Bool) (x : Step ℕ ℕ) → r ≡ OutlineAns.Done o → o .«header_type» < 256 → b ≡ letsAllPass filter → b ≡ true → x ≡ heardOutline s o → x ≡ asked f filter s
-  asked-outline o b x q byte d z g = g ∙ item-at f filter s o byte (glanced s r o e q) (sym d ∙ z)
+-- ---- as the code has it: r is what a glance gave, b the filter's verdict
+module _ (s : List ℕ) (r : OutlineAns) (e : r ≡ outlineOf s) where
+  pub glanced-long : (o : Outline) → r ≡ OutlineAns.Done o → allHeaders (o .«header_type») ≤ o .length
+  glanced-long o q = seen-of s r e o q .long
 
-  pub asked-refused : (i : ℕ) → r ≡ OutlineAns.Hickup i → Take i 4 2 ≡ asked f filter s
-  unfolding asked message
-  asked-refused i q =
-      let v = refused-of s r e i q in
-      rw (v .found, then-hickup (routed f filter true) body s 0 (refused-routed f filter s i v))
+  pub glanced-lies : (o : Outline) → r ≡ OutlineAns.Done o → o .place + 16 + o .length ≤ length s
+  glanced-lies o q = seen-of s r e o q .lies
 
-  pub asked-nowhere : (n : ℕ) → r ≡ OutlineAns.Nowhere n → Wait n ≡ asked f filter s
-  unfolding asked message
-  asked-nowhere n q = rw (then-need (routed f filter true) body s 0 (missed-routed f filter s n (missed-of s r e n q)))
+  module _ (f : List ℕ) (filter : Filter) where
+    pub asked-outline : (o : Outline) (b : Bool) (x : Step ℕ ℕ) → r ≡ OutlineAns.Done o → o .«header_type» < 256 → b ≡ dropsOutline f filter s o → b ≡ false → x ≡ heardOutline s o → x ≡ asked f filter s
+    asked-outline o b x q byte d z g = let v = seen-of s r e o q in g ∙ item-at f filter s o byte v (verdict-said f filter s o v b d ∙ z)
 
-pub ruleset glancing = (list-done, list-need, list-hickup, run-there, run-short, info-verbose, info-control, info-plain, outline-extended, outline-plain, glanced, asked-outline, asked-refused, asked-nowhere)
+    pub asked-filtered : (o : Outline) (b : Bool) → r ≡ OutlineAns.Done o → o .«header_type» < 256 → b ≡ dropsOutline f filter s o → b ≡ true → Take (o .place) (16 + o .length) 1 ≡ asked f filter s
+    asked-filtered o b q byte d z = let v = seen-of s r e o q in dropped-at f filter s o byte v (verdict-said f filter s o v b d ∙ z)
+
+    pub asked-refused : (i : ℕ) → r ≡ OutlineAns.Hickup i → Take i 4 2 ≡ asked f filter s
+    unfolding asked message
+    asked-refused i q =
+        let v = refused-of s r e i q in
+        rw (v .found, then-hickup (routed f filter true) body s 0 (refused-routed f filter s i v))
+
+    pub asked-nowhere : (n : ℕ) → r ≡ OutlineAns.Nowhere n → Wait n ≡ asked f filter s
+    unfolding asked message
+    asked-nowhere n q = rw (then-need (routed f filter true) body s 0 (missed-routed f filter s n (missed-of s r e n q)))
+
+pub ruleset glancing = (list-done, list-need, list-hickup, run-there, run-short, info-verbose, info-control, info-plain, outline-extended, outline-plain, outline-passed, asked-outline, asked-filtered, asked-refused, asked-nowhere)
