@@ -180,10 +180,10 @@ fn row(name: &str, bytes: usize, beside: &str, (ours, theirs, count): (Duration,
     );
 }
 
-/// A filter as bytes, and as the crate has it: a level, and sets of `n` ids, the trace's own among them.
-fn filters(n: usize) -> (Vec<u8>, ProcessedDltFilterConfig) {
+/// A filter as bytes, and as the crate has it: a level, and sets of `n` ids. The trace's own are among them where `app` is APP.
+fn filters(n: usize, app: &str) -> (Vec<u8>, ProcessedDltFilterConfig) {
     let set = |front: &str| -> Vec<String> { (0..n).map(|i| if i < 9 { format!("{front}{i}") } else { format!("{}{i:02}", &front[..2]) }).collect() };
-    let (apps, ecus, contexts) = (set("APP"), set("ECU"), set("CTX"));
+    let (apps, ecus, contexts) = (set(app), set("ECU"), set("CTX"));
     let mut bytes = vec![1, 0, 1, 6];
     for (tag, ids) in [(2, &apps), (3, &ecus), (4, &contexts)] {
         bytes.push(tag);
@@ -211,8 +211,8 @@ fn corpus() -> Option<Vec<u8>> {
 }
 
 fn machine() -> String {
-    let info = std::fs::read_to_string("/proc/cpuinfo").unwrap_or_default();
-    let name = info.lines().find_map(|line| line.strip_prefix("model name")).unwrap_or("").trim_start_matches([' ', '\t', ':']);
+    let told = std::process::Command::new("lscpu").output().map(|said| String::from_utf8_lossy(&said.stdout).into_owned()).unwrap_or_default();
+    let name = told.lines().find_map(|line| line.trim_start().strip_prefix("Model name:")).unwrap_or(std::env::consts::ARCH).trim();
     format!("{name}, {} processors", std::thread::available_parallelism().map_or(1, |n| n.get()))
 }
 
@@ -223,7 +223,7 @@ fn main() {
     let trace = traces::mixed(SIZE, 7, true);
     row("dlt_message, mixed trace", trace.len(), "dlt-core", in_turn(rounds, || ours_messages(&trace, &[], false), || core_messages(&trace, None)));
     row("the same, and every argument by its cursor", trace.len(), "dlt-core", in_turn(rounds, || ours_messages(&trace, &[], true), || core_messages(&trace, None)));
-    let (bytes, config) = filters(4);
+    let (bytes, config) = filters(4, "APP");
     row("dlt_message, filter of three sets of 4", trace.len(), "dlt-core", in_turn(rounds, || ours_messages(&trace, &bytes, false), || core_messages(&trace, Some(&config))));
     if let Some(real) = corpus() {
         row("dlt_message, corpus repeated", real.len(), "dlt-core", in_turn(rounds, || ours_messages(&real, &[], false), || core_messages(&real, None)));
@@ -235,6 +235,8 @@ fn main() {
         row(&format!("index, {} MB of the mixed trace", part >> 20), part, "dlt-core", in_turn(rounds, || ours_indexed(&trace[..part], &[], &mut table), || core_indexed(&trace[..part], None)));
     }
     row("index, filter of three sets of 4", trace.len(), "dlt-core", in_turn(rounds, || ours_indexed(&trace, &bytes, &mut table), || core_indexed(&trace, Some(&config))));
+    let (others, other_config) = filters(4, "NON");
+    row("index, the same with other app ids", trace.len(), "dlt-core", in_turn(rounds, || ours_indexed(&trace, &others, &mut table), || core_indexed(&trace, Some(&other_config))));
     let mut other = table.clone();
     row("index, in calls of 64 KB", trace.len(), "one call", in_turn(rounds, || resumed(&trace, 1 << 16, &mut table), || resumed(&trace, SIZE * 2, &mut other)));
     searches(rounds);
@@ -265,6 +267,6 @@ fn worst(rounds: u32) {
         row(&format!("dlt_message, {name}"), bytes.len(), "dlt-core", in_turn(rounds, || ours_messages(&bytes, &[], false), || core_messages(&bytes, None)));
     }
     let small = traces::mixed(SIZE / 16, 7, true);
-    let (bytes, config) = filters(64);
+    let (bytes, config) = filters(64, "APP");
     row("dlt_message, filter of three sets of 64", small.len(), "dlt-core", in_turn(rounds, || ours_messages(&small, &bytes, false), || core_messages(&small, Some(&config))));
 }
