@@ -9,8 +9,7 @@ use Rattle.arguments.proofs.dlt_argument.Tie as tie
 pub dlt-argument-spec : {M : Type 1} → statement M
 unfolding argument
 dlt-argument-spec =
-    tie.close
-    (tie.spec
+    let closed = tie.spec
     (λ c κs. search needs)
     (λ c. search needs)
     (λ c. search needs)
@@ -18,4 +17,5 @@ dlt-argument-spec =
     (λ c. search needs)
     (λ c. search arguments-reading depth 20)
     (λ c κs. search needs)
-    (λ c. search arguments-reading depth 20))
+    (λ c. search arguments-reading depth 20)
+    in tie.close closed

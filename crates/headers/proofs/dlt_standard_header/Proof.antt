@@ -9,8 +9,7 @@ use Rattle.headers.proofs.dlt_standard_header.Tie as tie
 pub dlt-standard-header-spec : {M : Type 1} → statement M
 unfolding standard
 dlt-standard-header-spec =
-    tie.close
-    (tie.spec
+    let closed = tie.spec
     (λ c κs. search needs)
     (λ c. search needs)
     (λ c. search needs)
@@ -24,4 +23,5 @@ dlt-standard-header-spec =
     (λ c. search needs)
     (λ c. search headers-reading depth 20)
     (λ c κs. search needs)
-    (λ c. search headers-reading depth 20))
+    (λ c. search headers-reading depth 20)
+    in tie.close closed

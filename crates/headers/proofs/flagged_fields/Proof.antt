@@ -9,8 +9,7 @@ use Rattle.headers.proofs.flagged_fields.Tie as tie
 pub flagged-fields-spec : {M : Type 1} → statement M
 unfolding flagged
 flagged-fields-spec =
-    tie.close
-    (tie.spec
+    let closed = tie.spec
     (λ c κs. search needs)
     (λ c. search needs)
     (λ c. search needs)
@@ -26,4 +25,5 @@ flagged-fields-spec =
     (λ c κs. search needs)
     (λ c κs. search needs)
     (λ c. search headers-reading depth 20)
-    (λ c. search headers-reading depth 20))
+    (λ c. search headers-reading depth 20)
+    in tie.close closed

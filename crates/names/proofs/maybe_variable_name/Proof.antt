@@ -9,11 +9,11 @@ use Rattle.names.proofs.maybe_variable_name.Tie as tie
 pub maybe-variable-name-spec : {M : Type 1} → statement M
 unfolding maybeName
 maybe-variable-name-spec =
-    tie.close
-    (tie.spec
+    let closed = tie.spec
     (λ c κs. search needs)
     (λ c. search needs)
     (λ c. search needs)
     (λ c. search names-reading depth 20)
     (λ c. search names-reading depth 20)
-    (λ c. search names-reading depth 20))
+    (λ c. search names-reading depth 20)
+    in tie.close closed

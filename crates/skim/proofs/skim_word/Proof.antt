@@ -7,8 +7,7 @@ use Rattle.skim.proofs.skim_word.Tie as tie
 
 pub skim-word-spec : {M : Type 1} → statement M
 skim-word-spec =
-    tie.close
-    (tie.spec
+    let closed = tie.spec
     (λ c κs. search needs)
     (λ c κs. search needs)
     (λ c κs. search needs)
@@ -21,4 +20,5 @@ skim-word-spec =
     (λ c. search skim-reading depth 20)
     (λ c. search skim-reading depth 20)
     (λ c. search skim-reading depth 20)
-    (λ c. let r = c .match .rest in word-none _ _ _ _ (r .0 .0 .0 .0 .1) (r .0 .0 .0 .1) (r .0 .0 .1) (r .0 .1) (r .1)))
+    (λ c. let r = c .match .rest in word-none _ _ _ _ (r .0 .0 .0 .0 .1) (r .0 .0 .0 .1) (r .0 .0 .1) (r .0 .1) (r .1))
+    in tie.close closed

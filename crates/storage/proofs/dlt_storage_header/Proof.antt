@@ -7,8 +7,7 @@ use Rattle.storage.proofs.dlt_storage_header.Tie as tie
 
 pub dlt-storage-header-spec : {M : Type 1} → statement M
 dlt-storage-header-spec =
-    tie.close
-    (tie.spec
+    let closed = tie.spec
     (λ c κs. search needs)
     (λ c. search storage-reading depth 20)
     (λ c κs. search needs)
@@ -17,4 +16,5 @@ dlt-storage-header-spec =
     (λ c κs. search needs)
     (λ c. search needs)
     (λ c. search storage-reading depth 20)
-    (λ c. search storage-reading depth 20))
+    (λ c. search storage-reading depth 20)
+    in tie.close closed

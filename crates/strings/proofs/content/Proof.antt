@@ -7,8 +7,7 @@ use Rattle.strings.proofs.content.Tie as tie
 
 pub content-spec : {M : Type 1} → statement M
 content-spec =
-    tie.close
-    (tie.spec
+    let closed = tie.spec
     (λ c κs. search needs)
     (λ c. search letters-all depth 20)
     (λ c. search needs)
@@ -16,4 +15,5 @@ content-spec =
     (λ c. search letters-end depth 20)
     (λ c κs. search needs)
     (λ c κs. search needs)
-    (λ c. search content-is depth 20))
+    (λ c. search content-is depth 20)
+    in tie.close closed

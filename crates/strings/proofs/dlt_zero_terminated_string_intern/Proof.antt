@@ -7,8 +7,7 @@ use Rattle.strings.proofs.dlt_zero_terminated_string_intern.Tie as tie
 
 pub dlt-zero-terminated-string-intern-spec : {M : Type 1} → statement M
 dlt-zero-terminated-string-intern-spec =
-    tie.close
-    (tie.spec
+    let closed = tie.spec
     (λ c κs. search needs)
     (λ c κs. search needs)
     (λ c. search needs)
@@ -16,4 +15,5 @@ dlt-zero-terminated-string-intern-spec =
     (λ c. search texts depth 20)
     (λ c κs. search needs)
     (λ c. search needs)
-    (λ c. search texts depth 20))
+    (λ c. search texts depth 20)
+    in tie.close closed

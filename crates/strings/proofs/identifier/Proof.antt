@@ -9,8 +9,7 @@ use Rattle.strings.proofs.identifier.Tie as tie
 pub identifier-spec : {M : Type 1} → statement M
 unfolding identified
 identifier-spec =
-    tie.close
-    (tie.spec
+    let closed = tie.spec
     (λ c κs. search needs)
     (λ c κs. search needs)
     (λ c. search needs)
@@ -20,4 +19,5 @@ identifier-spec =
     (λ c. search needs)
     (λ c. search (text-done, letters-end) depth 20)
     (λ c κs. search needs)
-    (λ c. c .dlt-zero-terminated-string-intern .ensures))
+    (λ c. c .dlt-zero-terminated-string-intern .ensures)
+    in tie.close closed

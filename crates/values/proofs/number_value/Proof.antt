@@ -9,8 +9,7 @@ use Rattle.values.proofs.number_value.Tie as tie
 pub number-value-spec : {M : Type 1} → statement M
 unfolding value
 number-value-spec =
-    tie.close
-    (tie.spec
+    let closed = tie.spec
     (λ c. search needs)
     (λ c κs. search needs)
     (λ c. search needs)
@@ -19,4 +18,5 @@ number-value-spec =
     (λ c κs. search needs)
     (λ c. search values-reading depth 20)
     (λ c. search values-reading depth 20)
-    (λ c. search values-reading depth 20))
+    (λ c. search values-reading depth 20)
+    in tie.close closed

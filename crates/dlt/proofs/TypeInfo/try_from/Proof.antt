@@ -9,12 +9,12 @@ use Rattle.dlt.proofs.TypeInfo.try_from.Tie as tie
 pub try-from-spec : {M : Type 1} → statement M
 unfolding typeInfoOf
 try-from-spec =
-    tie.close
-    (tie.spec
+    let closed = tie.spec
     (λ c κs. search needs)
     (λ c. search needs)
     (λ c. search needs)
     (λ c κs. search needs)
     (λ c. search needs)
     (λ c. rw (c .coding-of .ensures) (search dlt-reading depth 20))
-    (λ c. search dlt-reading depth 20))
+    (λ c. search dlt-reading depth 20)
+    in tie.close closed

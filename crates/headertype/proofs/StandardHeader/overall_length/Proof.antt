@@ -9,11 +9,11 @@ use Rattle.headertype.proofs.StandardHeader.overall_length.Tie as tie
 pub overall-length-spec : {M : Type 1} → statement M
 unfolding overallLength
 overall-length-spec =
-    tie.close
-    (tie.spec
+    let closed = tie.spec
     (λ c κs. search needs)
     (λ c κs. search needs)
     (λ c. search needs)
     (λ c. search needs)
     (λ c. search needs)
-    (λ c. search header-reading depth 20))
+    (λ c. search header-reading depth 20)
+    in tie.close closed

@@ -9,8 +9,7 @@ use Rattle.signals.proofs.SignalCursor.next.Tie as tie
 pub next-spec : {M : Type 1} → statement M
 unfolding signalTurn
 next-spec =
-    tie.close
-    (tie.spec
+    let closed = tie.spec
     (λ c. search needs)
     (λ c. search needs)
     (λ c κs. search needs)
@@ -19,4 +18,5 @@ next-spec =
     (λ c. search signals-reading depth 20)
     (λ c. search needs)
     (λ c. search signals-reading depth 20)
-    (λ c. search signals-reading depth 20))
+    (λ c. search signals-reading depth 20)
+    in tie.close closed
