@@ -3,7 +3,11 @@ use std::{env, fmt::Write, fs, path::Path};
 
 fn main() {
     let root = env::var("CARGO_MANIFEST_DIR").unwrap();
-    let archive = env::var("DLT_ARCHIVE").unwrap_or(format!("{root}/../target/staticlib"));
+    let archive = match (env::var("DLT_ARCHIVE"), env::var("CARGO_CFG_TARGET_ARCH").as_deref()) {
+        (Ok(folder), _) => folder,
+        (_, Ok("x86_64")) => format!("{root}/../target/staticlib"),
+        _ => panic!("the archive is x86-64 code: on this machine DLT_ARCHIVE must name the folder of one that was compiled for it"),
+    };
     let header = format!("{root}/../crates/exports/include/dlt.h");
     println!("cargo:rustc-link-search=native={archive}");
     println!("cargo:rustc-link-lib=static=exports");
