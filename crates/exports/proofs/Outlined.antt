@@ -39,8 +39,8 @@ use Rattle.outline.specs.There.{extendedPlace, extendedIf, extendedAt, standard
 use Rattle.outline.specs.Outline.{outlineOf}
 use Rattle.outline.specs.declared.Outline.{Outline}
 use Rattle.outline.specs.declared.OutlineAns.{OutlineAns}
-use Rattle.outline.proofs.There.{number-there, headers-end}
-use Rattle.step.proofs.Glance.{byte-number, control-type, big-order}
+use Rattle.outline.proofs.There.{number-there, byte-number, bytes-there, headers-end}
+use Rattle.step.proofs.Glance.{control-type, big-order}
 use Rattle.outline.proofs.Seen.{Seen, seen-of, refused-of, missed-of, seen-routed, refused-routed, missed-routed}
 use Rattle.verdict.specs.Drops.{dropsOutline}
 use Rattle.verdict.proofs.Said.{outline-passed, verdict-said}
@@ -95,10 +95,6 @@ module _ (T : List ℕ) (s : List ℕ) (o : Outline) (a : Answer) (at : ℕ) (bi
   hand-list-hickup m q e = shown-hickup T T s o a _ m (step here _ s at (here-is s at) (then-hickup (arguments big n) _ s at (wire.told passAns d q))) e
 
 -- ---- a payload of n bytes that are there
-bytes-there : (s : List ℕ) (p n : ℕ) → p + n ≤ length s → bytes n s p ≡ done (range p n) (p + n)
-unfolding bytes
-bytes-there s p n h = fixed-done n (λ s at. range at n) s p (omega arith)
-
 module _ (T X : List ℕ) (s : List ℕ) (o : Outline) (a : Answer) (at n : ℕ) (there : at + n ≤ length s) where
   pub hand-control-done : (t : ControlType) → 1 ≤ n → t ≡ controlOf (getD s at 0) → X ≡ outlinedLaid T s o (PayloadContent.ControlMsg t (range (at + 1) (n - 1))) → a ≡ numbers 0 0 (at + n)
       → outlinedShown T s o (control n s at) ≡ left a X
@@ -258,32 +254,25 @@ module _ (T : List ℕ) (f : List ℕ) (filter : Filter) (s : List ℕ) (o : Out
   dropped-shown q = ap (λ (x : Ans ParsedMessage). messageShown T (parse.Answer.answered x)) (sym (message-is ∙ dropped-is q))
 
 -- ---- as the code has it: r is what a glance gave, b the filter's verdict
-module _ (s : List ℕ) (r : OutlineAns) (e : r ≡ outlineOf s) where
-  pub glanced-long : (o : Outline) → r ≡ OutlineAns.Done o → allHeaders (o .«header_type») ≤ o .length
-  glanced-long o q = seen-of s r e o q .long
+module _ (s : List ℕ) (r : OutlineAns) (e : r ≡ outlineOf s) (T X : List ℕ) (a : Answer) (f : List ℕ) (filter : Filter) (stored : Bool) (is-stored : stored ≡ true) where
+  pub glance-done : (o : Outline) (b : Bool) → r ≡ OutlineAns.Done o → o .«header_type» < 256 → b ≡ dropsOutline f filter s o → b ≡ false → outlinedShown T s o (outlinedPayload s o) ≡ left a X
+      → messageShown T (parse.Answer.answered (message f filter stored s 0)) ≡ left a X
+  glance-done o b q byte d z g =
+      let v = seen-of s r e o q in
+      rw is-stored (sym (item-shown T f filter s o byte v (verdict-said f filter s o v b d ∙ z)) ∙ g)
 
-  pub glanced-lies : (o : Outline) → r ≡ OutlineAns.Done o → o .place + 16 + o .length ≤ length s
-  glanced-lies o q = seen-of s r e o q .lies
+  pub glance-filtered : (o : Outline) (b : Bool) → r ≡ OutlineAns.Done o → o .«header_type» < 256 → b ≡ dropsOutline f filter s o → b ≡ true → droppedShown T o ≡ left a X
+      → messageShown T (parse.Answer.answered (message f filter stored s 0)) ≡ left a X
+  glance-filtered o b q byte d z g =
+      let v = seen-of s r e o q in
+      rw is-stored (sym (dropped-shown T f filter s o byte v (verdict-said f filter s o v b d ∙ z)) ∙ g)
 
-  module _ (T X : List ℕ) (a : Answer) (f : List ℕ) (filter : Filter) (stored : Bool) (is-stored : stored ≡ true) where
-    pub glance-done : (o : Outline) (b : Bool) → r ≡ OutlineAns.Done o → o .«header_type» < 256 → b ≡ dropsOutline f filter s o → b ≡ false → outlinedShown T s o (outlinedPayload s o) ≡ left a X
-        → messageShown T (parse.Answer.answered (message f filter stored s 0)) ≡ left a X
-    glance-done o b q byte d z g =
-        let v = seen-of s r e o q in
-        rw is-stored (sym (item-shown T f filter s o byte v (verdict-said f filter s o v b d ∙ z)) ∙ g)
+  pub glance-hickup : (i : ℕ) → r ≡ OutlineAns.Hickup i → a ≡ numbers 3 1 0 → messageShown T (parse.Answer.answered (message f filter stored s 0)) ≡ left a T
+  unfolding messageShown message
+  glance-hickup i q d = rw (is-stored, then-hickup (routed f filter true) body s 0 (refused-routed f filter s i (refused-of s r e i q)), d)
 
-    pub glance-filtered : (o : Outline) (b : Bool) → r ≡ OutlineAns.Done o → o .«header_type» < 256 → b ≡ dropsOutline f filter s o → b ≡ true → droppedShown T o ≡ left a X
-        → messageShown T (parse.Answer.answered (message f filter stored s 0)) ≡ left a X
-    glance-filtered o b q byte d z g =
-        let v = seen-of s r e o q in
-        rw is-stored (sym (dropped-shown T f filter s o byte v (verdict-said f filter s o v b d ∙ z)) ∙ g)
-
-    pub glance-hickup : (i : ℕ) → r ≡ OutlineAns.Hickup i → a ≡ numbers 3 1 0 → messageShown T (parse.Answer.answered (message f filter stored s 0)) ≡ left a T
-    unfolding messageShown message
-    glance-hickup i q d = rw (is-stored, then-hickup (routed f filter true) body s 0 (refused-routed f filter s i (refused-of s r e i q)), d)
-
-    pub glance-nowhere : (n : ℕ) → r ≡ OutlineAns.Nowhere n → a ≡ numbers 2 n 0 → messageShown T (parse.Answer.answered (message f filter stored s 0)) ≡ left a T
-    unfolding messageShown message
-    glance-nowhere n q d = rw (is-stored, then-need (routed f filter true) body s 0 (missed-routed f filter s n (missed-of s r e n q)), d)
+  pub glance-nowhere : (n : ℕ) → r ≡ OutlineAns.Nowhere n → a ≡ numbers 2 n 0 → messageShown T (parse.Answer.answered (message f filter stored s 0)) ≡ left a T
+  unfolding messageShown message
+  glance-nowhere n q d = rw (is-stored, then-need (routed f filter true) body s 0 (missed-routed f filter s n (missed-of s r e n q)), d)
 
 pub ruleset outlined = (list-trace, list-verbose, hand-list-done, hand-list-need, hand-list-hickup, hand-control-done, hand-control-short, hand-plain-short, hand-plain-done, hand-plain-need, by-verbose, by-control, by-plain, outline-extended, outline-plain, outline-filtered, outline-passed, glance-done, glance-filtered, glance-hickup, glance-nowhere)

@@ -85,6 +85,12 @@ module _ (s : List ℕ) (r : OutlineAns) (e : r ≡ outlineOf s) where
   pub seen-of : (o : Outline) → r ≡ OutlineAns.Done o → Seen s o
   seen-of o q = subst (Told s) (sym e ∙ q) (tells s)
 
+  pub glanced-long : (o : Outline) → r ≡ OutlineAns.Done o → allHeaders (o .«header_type») ≤ o .length
+  glanced-long o q = seen-of o q .long
+
+  pub glanced-lies : (o : Outline) → r ≡ OutlineAns.Done o → o .place + 16 + o .length ≤ length s
+  glanced-lies o q = seen-of o q .lies
+
   pub refused-of : (i : ℕ) → r ≡ OutlineAns.Hickup i → Refused s i
   refused-of i q = subst (Told s) (sym e ∙ q) (tells s)
 

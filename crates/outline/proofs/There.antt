@@ -6,7 +6,7 @@ use native.Mathlib.Nat.{sub-zero}
 use mathlib.Core.Path.{_≡_, refl, sym, ap, _∙_}
 use mathlib.Core.Bool.{Bool, true, false}
 use mathlib.Core.List.{List}
-use lib.ListN.{length}
+use lib.ListN.{length, getD}
 use lib.Dec.{leb, eqb}
 use borrow.Author.Tests.{le-leb, lt-leb}
 use Rattle.wire.specs.Answer.{Ans, Parser}
@@ -40,6 +40,16 @@ module _ (s : List ℕ) (at : ℕ) where
   pub number-there : (big : Bool) (w : ℕ) → at + w ≤ length s → number big w s at ≡ done (numberOf big w s at) (at + w)
   unfolding number
   number-there big w h = fixed-done w (numberOf big w) s at (omega arith)
+
+  pub byte-number : numberOf true 1 s at ≡ getD s at 0
+  unfolding numberOf
+  byte-number =
+      let e : at + 0 ≡ at = omega arith in
+      rw e (omega arith)
+
+  pub bytes-there : (n : ℕ) → at + n ≤ length s → bytes n s at ≡ done (range at n) (at + n)
+  unfolding bytes
+  bytes-there n h = fixed-done n (λ s at. range at n) s at (omega arith)
 
   pub id-there : at + 4 ≤ length s → identified s at ≡ done (textOf 4 s at) (at + 4)
   unfolding identified text

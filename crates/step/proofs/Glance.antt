@@ -41,7 +41,7 @@ use Rattle.outline.specs.There.{extendedPlace, extendedIf, extendedAt, ecuAt, s
 use Rattle.outline.specs.Outline.{outlineOf}
 use Rattle.outline.specs.declared.Outline.{Outline}
 use Rattle.outline.specs.declared.OutlineAns.{OutlineAns}
-use Rattle.outline.proofs.There.{number-there, id-there, extended-there, headers-end, extended-place, declared-again}
+use Rattle.outline.proofs.There.{number-there, headers-end, declared-again, byte-number, bytes-there}
 use Rattle.outline.proofs.Seen.{Seen, seen-of, refused-of, missed-of, seen-routed, refused-routed, missed-routed}
 use Rattle.verdict.specs.Drops.{dropsOutline}
 use Rattle.verdict.proofs.Said.{outline-passed, verdict-said}
@@ -94,12 +94,6 @@ module _ (s : List ℕ) (o : Outline) (a : ℕ) (is-all : a ≡ allHeaders (o .�
   outline-plain h e = rw (ne-eqb _ _ h, ← is-all) e
 
 -- ---- what is heard at a glance is what the rule says of the payload
-pub byte-number : (s : List ℕ) (at : ℕ) → numberOf true 1 s at ≡ getD s at 0
-unfolding numberOf
-byte-number s at =
-    let e : at + 0 ≡ at = omega arith in
-    rw e (omega arith)
-
 pub control-type : (t n : ℕ) → controlType (messageTypeBy t n) ≡ eqb t 3
 unfolding controlType messageTypeBy
 control-type zero n = refl
@@ -129,10 +123,6 @@ module _ (k l : ℕ) (s : List ℕ) (at : ℕ) where
       by (hickup r) = refl
       by broken = refl
 
-  bytes-there : (p n : ℕ) → p + n ≤ length s → bytes n s p ≡ done (range p n) (p + n)
-  unfolding bytes
-  bytes-there p n h = fixed-done n (λ s at. range at n) s p (omega arith)
-
   module _ (n : ℕ) (there : at + n ≤ length s) where
     control-heard : heardPayload k l (control n s at) ≡ heardRun 1 n k l
     unfolding control heardRun choose fail
@@ -143,7 +133,7 @@ module _ (k l : ℕ) (s : List ℕ) (at : ℕ) where
             let h = leb-true 1 n e in
             ap (heardPayload k l)
             (step (number true 1) _ s at (number-there s at true 1 (omega (arith, h)))
-            (step (bytes (n - 1)) _ s (at + 1) (bytes-there (at + 1) (n - 1) (omega (arith, h))) (ret-is _ s _)))
+            (step (bytes (n - 1)) _ s (at + 1) (bytes-there s (at + 1) (n - 1) (omega (arith, h))) (ret-is _ s _)))
         by false e = refl
 
     plain-heard : (big : Bool) → heardPayload k l (plain big n s at) ≡ heardRun 4 n k l
@@ -155,7 +145,7 @@ module _ (k l : ℕ) (s : List ℕ) (at : ℕ) where
             let h = leb-true 4 n e in
             ap (heardPayload k l)
             (step (number big 4) _ s at (number-there s at big 4 (omega (arith, h)))
-            (step (bytes (n - 4)) _ s (at + 4) (bytes-there (at + 4) (n - 4) (omega (arith, h))) (ret-is _ s _)))
+            (step (bytes (n - 4)) _ s (at + 4) (bytes-there s (at + 4) (n - 4) (omega (arith, h))) (ret-is _ s _)))
         by false e = refl
 
     kinds-heard : (big v c network : Bool) (m : ℕ) → heardPayload k l (pick v (verbose big m network s at) (pick c (control n s at) (plain big n s at)))
@@ -217,32 +207,25 @@ module _ (f : List ℕ) (filter : Filter) (s : List ℕ) (o : Outline) (byte : o
   dropped-at : h .filtered ≡ true → Take (o .place) (16 + o .length) 1 ≡ asked f filter s
   unfolding headersAt headersOf standardAt headerOf
   dropped-at q =
-      ap (heardDropped (o .place) (16 + o .length)) (sym (bytes-there (o .place) (16 + o .length) s at at (o .length - allHeaders t) (omega (arith, v .long, v .lies))))
+      ap (heardDropped (o .place) (16 + o .length)) (sym (bytes-there s at (o .length - allHeaders t) (omega (arith, v .long, v .lies))))
       ∙ dropped-heard (o .place) (16 + o .length) h s at q ∙ outline-asked
 
 -- ---- as the code has it: r is what a glance gave, b the filter's verdict
-module _ (s : List ℕ) (r : OutlineAns) (e : r ≡ outlineOf s) where
-  pub glanced-long : (o : Outline) → r ≡ OutlineAns.Done o → allHeaders (o .«header_type») ≤ o .length
-  glanced-long o q = seen-of s r e o q .long
+module _ (f : List ℕ) (filter : Filter) (s : List ℕ) (r : OutlineAns) (e : r ≡ outlineOf s) where
+  pub asked-outline : (o : Outline) (b : Bool) (x : Step ℕ ℕ) → r ≡ OutlineAns.Done o → o .«header_type» < 256 → b ≡ dropsOutline f filter s o → b ≡ false → x ≡ heardOutline s o → x ≡ asked f filter s
+  asked-outline o b x q byte d z g = let v = seen-of s r e o q in g ∙ item-at f filter s o byte v (verdict-said f filter s o v b d ∙ z)
 
-  pub glanced-lies : (o : Outline) → r ≡ OutlineAns.Done o → o .place + 16 + o .length ≤ length s
-  glanced-lies o q = seen-of s r e o q .lies
+  pub asked-filtered : (o : Outline) (b : Bool) → r ≡ OutlineAns.Done o → o .«header_type» < 256 → b ≡ dropsOutline f filter s o → b ≡ true → Take (o .place) (16 + o .length) 1 ≡ asked f filter s
+  asked-filtered o b q byte d z = let v = seen-of s r e o q in dropped-at f filter s o byte v (verdict-said f filter s o v b d ∙ z)
 
-  module _ (f : List ℕ) (filter : Filter) where
-    pub asked-outline : (o : Outline) (b : Bool) (x : Step ℕ ℕ) → r ≡ OutlineAns.Done o → o .«header_type» < 256 → b ≡ dropsOutline f filter s o → b ≡ false → x ≡ heardOutline s o → x ≡ asked f filter s
-    asked-outline o b x q byte d z g = let v = seen-of s r e o q in g ∙ item-at f filter s o byte v (verdict-said f filter s o v b d ∙ z)
+  pub asked-refused : (i : ℕ) → r ≡ OutlineAns.Hickup i → Take i 4 2 ≡ asked f filter s
+  unfolding asked message
+  asked-refused i q =
+      let v = refused-of s r e i q in
+      rw (v .found, then-hickup (routed f filter true) body s 0 (refused-routed f filter s i v))
 
-    pub asked-filtered : (o : Outline) (b : Bool) → r ≡ OutlineAns.Done o → o .«header_type» < 256 → b ≡ dropsOutline f filter s o → b ≡ true → Take (o .place) (16 + o .length) 1 ≡ asked f filter s
-    asked-filtered o b q byte d z = let v = seen-of s r e o q in dropped-at f filter s o byte v (verdict-said f filter s o v b d ∙ z)
-
-    pub asked-refused : (i : ℕ) → r ≡ OutlineAns.Hickup i → Take i 4 2 ≡ asked f filter s
-    unfolding asked message
-    asked-refused i q =
-        let v = refused-of s r e i q in
-        rw (v .found, then-hickup (routed f filter true) body s 0 (refused-routed f filter s i v))
-
-    pub asked-nowhere : (n : ℕ) → r ≡ OutlineAns.Nowhere n → Wait n ≡ asked f filter s
-    unfolding asked message
-    asked-nowhere n q = rw (then-need (routed f filter true) body s 0 (missed-routed f filter s n (missed-of s r e n q)))
+  pub asked-nowhere : (n : ℕ) → r ≡ OutlineAns.Nowhere n → Wait n ≡ asked f filter s
+  unfolding asked message
+  asked-nowhere n q = rw (then-need (routed f filter true) body s 0 (missed-routed f filter s n (missed-of s r e n q)))
 
 pub ruleset glancing = (list-done, list-need, list-hickup, run-there, run-short, info-verbose, info-control, info-plain, outline-extended, outline-plain, outline-passed, asked-outline, asked-filtered, asked-refused, asked-nowhere)
