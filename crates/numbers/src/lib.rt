@@ -586,7 +586,8 @@ pub fn put_outlined(out: &mut [u64], s: &[u8], o: Outline, content: PayloadConte
 pub fn put_filtered(out: &mut [u64], n: u16)
     ensures { λ _. ⌜ now (out .exit) ≡ messageLaid (now (out .entry)) (ParsedMessage.FilteredOut n) ⌝ }
 {
-    if 33 <= out.len() {
+    let room = out.len();
+    if 33 <= room {
         put2(out, 0, 1, n as u64);
     }
 }

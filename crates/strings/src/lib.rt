@@ -190,6 +190,13 @@ fn content(s: &[u8], at: usize, n: usize) -> usize
     valid_up_to(s, at, before)
 }
 
+// A string of a size at the front of the bytes.
+pub fn dlt_zero_terminated_string(s: &[u8], size: usize) -> RangeAns
+    ensures { λ r. ⌜ rangeAns r ≡ text size (now (s .entry)) 0 ⌝ }
+{
+    dlt_zero_terminated_string_intern(s, 0, size)
+}
+
 // A string of a size at a position: the longest valid UTF-8 prefix of what stands before its first zero byte.
 pub fn dlt_zero_terminated_string_intern(s: &[u8], at: usize, size: usize) -> RangeAns
     ensures { λ r. ⌜ rangeAns r ≡ text size (now (s .entry)) at ⌝ }
@@ -208,13 +215,6 @@ pub fn dlt_zero_terminated_string_intern(s: &[u8], at: usize, size: usize) -> Ra
         },
         next: at + size,
     })
-}
-
-// A string of a size at the front of the bytes.
-pub fn dlt_zero_terminated_string(s: &[u8], size: usize) -> RangeAns
-    ensures { λ r. ⌜ rangeAns r ≡ text size (now (s .entry)) 0 ⌝ }
-{
-    dlt_zero_terminated_string_intern(s, 0, size)
 }
 
 // An identifier: a string of size 4. Most are letters up to a zero byte or the end.

@@ -9,8 +9,7 @@ use Rattle.headers.proofs.dlt_extended_header.Tie as tie
 pub dlt-extended-header-spec : {M : Type 1} → statement M
 unfolding extended
 dlt-extended-header-spec =
-    tie.close
-    (tie.spec
+    let closed = tie.spec
     (λ c κs. search needs)
     (λ c. search needs)
     (λ c. search needs)
@@ -20,4 +19,5 @@ dlt-extended-header-spec =
     (λ c. search needs)
     (λ c. search headers-reading depth 20)
     (λ c κs. search needs)
-    (λ c. search headers-reading depth 20))
+    (λ c. search headers-reading depth 20)
+    in tie.close closed

@@ -6,10 +6,19 @@ use Rattle.headers.specs.Standard.{flagged}
 use Rattle.headers.proofs.flagged_fields.Statement.{statement}
 use Rattle.headers.proofs.flagged_fields.Tie as tie
 
+returns-2 : tie.Need-returns-2
+unfolding flagged
+returns-2 c = search headers-reading depth 20
+
+returns-5 : tie.Need-returns-5
+unfolding flagged
+returns-5 c = search headers-reading depth 20
+
 pub flagged-fields-spec : {M : Type 1} → statement M
 unfolding flagged
 flagged-fields-spec =
-    let closed = tie.spec
+    tie.close
+    (tie.spec
     (λ c κs. search needs)
     (λ c. search needs)
     (λ c. search needs)
@@ -17,7 +26,7 @@ flagged-fields-spec =
     (λ c κs. search needs)
     (λ c. search needs)
     (λ c. search needs)
-    (λ c. search headers-reading depth 20)
+    returns-2
     (λ c κs. search needs)
     (λ c. search needs)
     (λ c. search needs)
@@ -25,5 +34,4 @@ flagged-fields-spec =
     (λ c κs. search needs)
     (λ c κs. search needs)
     (λ c. search headers-reading depth 20)
-    (λ c. search headers-reading depth 20)
-    in tie.close closed
+    returns-5)

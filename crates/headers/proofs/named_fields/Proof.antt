@@ -9,8 +9,7 @@ use Rattle.headers.proofs.named_fields.Tie as tie
 pub named-fields-spec : {M : Type 1} → statement M
 unfolding named
 named-fields-spec =
-    tie.close
-    (tie.spec
+    let closed = tie.spec
     (λ c κs. search needs)
     (λ c. search needs)
     (λ c. search needs)
@@ -20,4 +19,5 @@ named-fields-spec =
     (λ c. search needs)
     (λ c. search headers-reading depth 20)
     (λ c κs. search needs)
-    (λ c. search headers-reading depth 20))
+    (λ c. search headers-reading depth 20)
+    in tie.close closed

@@ -8,10 +8,10 @@ use Rattle.headertype.proofs.calculate_all_headers_length.Tie as tie
 pub calculate-all-headers-length-spec : {M : Type 1} → statement M
 unfolding allHeaders
 calculate-all-headers-length-spec =
-    tie.close
-    (tie.spec
+    let closed = tie.spec
     (λ c. search needs)
     (λ c κs. search needs)
     (λ c. search needs)
     (λ c. search needs)
-    (λ c. search needs depth 20))
+    (λ c. search needs depth 20)
+    in tie.close closed

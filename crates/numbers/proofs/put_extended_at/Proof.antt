@@ -7,8 +7,7 @@ use Rattle.numbers.proofs.put_extended_at.Tie as tie
 
 pub put-extended-at-spec : {M : Type 1} → statement M
 put-extended-at-spec =
-    tie.close
-    (tie.spec
+    let closed = tie.spec
     (λ c κs. search needs)
     (λ c. search needs)
     (λ c κs. search needs)
@@ -25,4 +24,5 @@ put-extended-at-spec =
     (λ c. search needs)
     (λ c. search outlined depth 20)
     (λ c. search needs)
-    (λ c. search outlined depth 20))
+    (λ c. search outlined depth 20)
+    in tie.close closed

@@ -7,11 +7,11 @@ use Rattle.numbers.proofs.put_lead.Tie as tie
 
 pub put-lead-spec : {M : Type 1} → statement M
 put-lead-spec =
-    tie.close
-    (tie.spec
+    let closed = tie.spec
     (λ c. search needs)
     (λ c κs. search needs)
     (λ c κs. search needs)
     (λ c κs. search needs)
     (λ c. search needs)
-    (λ c. search rows depth 20))
+    (λ c. search rows depth 20)
+    in tie.close closed

@@ -7,8 +7,7 @@ use Rattle.numbers.proofs.put_outlined.Tie as tie
 
 pub put-outlined-spec : {M : Type 1} → statement M
 put-outlined-spec =
-    tie.close
-    (tie.spec
+    let closed = tie.spec
     (λ c κs. search needs)
     (λ c. search needs)
     (λ c κs. search needs)
@@ -18,4 +17,5 @@ put-outlined-spec =
     (λ c. search needs)
     (λ c. search outlined depth 20)
     (λ c. search outlined depth 20)
-    (λ c. search outlined depth 20))
+    (λ c. search outlined depth 20)
+    in tie.close closed

@@ -147,8 +147,7 @@ returns-17 c = search needs
 
 pub value-first-spec : {M : Type 1} → statement M
 value-first-spec =
-    tie.close
-    (tie.spec
+    let closed = tie.spec
     enum-known-v
     cast-result
     enum-known-v-2
@@ -194,4 +193,5 @@ value-first-spec =
     returns-14
     returns-15
     returns-16
-    returns-17)
+    returns-17
+    in tie.close closed

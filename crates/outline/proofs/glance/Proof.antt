@@ -7,8 +7,7 @@ use Rattle.outline.proofs.glance.Tie as tie
 
 pub glance-spec : {M : Type 1} → statement M
 glance-spec =
-    tie.close
-    (tie.spec
+    let closed = tie.spec
     (λ c κs. search needs)
     (λ c. search needs)
     (λ c κs. search needs)
@@ -21,4 +20,5 @@ glance-spec =
     (λ c. search needs)
     (λ c. search glancing depth 20)
     (λ c. search glancing depth 20)
-    (λ c. search glancing depth 20))
+    (λ c. search glancing depth 20)
+    in tie.close closed

@@ -7,10 +7,10 @@ use Rattle.outline.proofs.pair_at.Tie as tie
 
 pub pair-at-spec : {M : Type 1} → statement M
 pair-at-spec =
-    tie.close
-    (tie.spec
+    let closed = tie.spec
     (λ c κs. search needs)
     (λ c. search needs)
     (λ c. search needs)
     (λ c. search glancing depth 20)
-    (λ c. search glancing depth 20))
+    (λ c. search glancing depth 20)
+    in tie.close closed

@@ -7,11 +7,11 @@ use Rattle.outline.proofs.test.Tie as tie
 
 pub test-spec : {M : Type 1} → statement M
 test-spec =
-    tie.close
-    (tie.spec
+    let closed = tie.spec
     (λ c κs. search needs)
     (λ c. search glancing depth 20)
     (λ c. search needs)
     (λ c. search needs)
     (λ c. search glancing depth 20)
-    (λ c. search glancing depth 20))
+    (λ c. search glancing depth 20)
+    in tie.close closed

@@ -7,11 +7,11 @@ use Rattle.signed.proofs.parse_i128.Tie as tie
 
 pub parse-i128-spec : {M : Type 1} → statement M
 parse-i128-spec =
-    tie.close
-    (tie.spec
+    let closed = tie.spec
     (λ c κs. search needs)
     (λ c. search needs)
     (λ c κs. search needs)
     (λ c. search needs)
     (λ c. search signed-reading depth 20)
-    (λ c. search signed-reading depth 20))
+    (λ c. search signed-reading depth 20)
+    in tie.close closed

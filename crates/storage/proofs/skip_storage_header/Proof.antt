@@ -9,8 +9,7 @@ use Rattle.storage.proofs.skip_storage_header.Tie as tie
 pub skip-storage-header-spec : {M : Type 1} → statement M
 unfolding skip
 skip-storage-header-spec =
-    tie.close
-    (tie.spec
+    let closed = tie.spec
     (λ c κs. search needs)
     (λ c. search needs)
     (λ c. search needs)
@@ -27,4 +26,5 @@ skip-storage-header-spec =
     (λ c. search needs)
     (λ c. search needs)
     (λ c. search storage-reading depth 20)
-    (λ c. search storage-reading depth 20))
+    (λ c. search storage-reading depth 20)
+    in tie.close closed

@@ -9,8 +9,7 @@ use Rattle.storage.proofs.stored_fields.Tie as tie
 pub stored-fields-spec : {M : Type 1} → statement M
 unfolding stored
 stored-fields-spec =
-    tie.close
-    (tie.spec
+    let closed = tie.spec
     (λ c κs. search needs)
     (λ c. search needs)
     (λ c. search needs)
@@ -24,4 +23,5 @@ stored-fields-spec =
     (λ c. search needs)
     (λ c. search storage-reading depth 20)
     (λ c κs. search needs)
-    (λ c. search storage-reading depth 20))
+    (λ c. search storage-reading depth 20)
+    in tie.close closed

@@ -9,8 +9,7 @@ use Rattle.storage.proofs.whole_message.Tie as tie
 pub whole-message-spec : {M : Type 1} → statement M
 unfolding whole
 whole-message-spec =
-    tie.close
-    (tie.spec
+    let closed = tie.spec
     (λ c κs. search needs)
     (λ c. search needs)
     (λ c. search needs)
@@ -25,4 +24,5 @@ whole-message-spec =
     (λ c. search needs)
     (λ c. search needs)
     (λ c. search storage-reading depth 20)
-    (λ c. search storage-reading depth 20))
+    (λ c. search storage-reading depth 20)
+    in tie.close closed

@@ -8,8 +8,7 @@ use Rattle.headertype.proofs.StandardHeader.header_type_byte.Tie as tie
 pub header-type-byte-spec : {M : Type 1} → statement M
 unfolding headerTypeByte
 header-type-byte-spec =
-    tie.close
-    (tie.spec
+    let closed = tie.spec
     (λ c κs. search needs)
     (λ c κs. search needs)
     (λ c κs. search needs)
@@ -26,4 +25,5 @@ header-type-byte-spec =
     (λ c. search needs)
     (λ c. search needs)
     (λ c. search needs)
-    (λ c. search needs depth 20))
+    (λ c. search needs depth 20)
+    in tie.close closed
