@@ -12,20 +12,30 @@ use reals::Real64;
 // `[FROM-TO KIND,CODING,VARINFO,TRACEINFO name=.TEXT unit=.TEXT fp=QQQQQQQQ,i32:N VALUE]`, of an argument that was read from `s`.
 pub fn argument(out: &mut Out, at: usize, s: &[u8], a: Argument) -> usize {
     let info = a.type_info;
-    let its_name = a.name;
-    let its_unit = a.unit;
     let its_point = a.fixed_point;
     let its_value = a.value;
-    let from = writer::labelled(out, at, b"[", a.start as u64);
-    let to = writer::labelled(out, from, b"-", a.end as u64);
-    let placed = writer::byte(out, to, b' ');
+    let placed = place(out, at, a.start, a.end);
     let typed = types::type_info(out, placed, info);
-    let named = writer::maybe_range(out, typed, b" name=", s, its_name);
-    let measured = writer::maybe_range(out, named, b" unit=", s, its_unit);
-    let scaled = fixed_point(out, measured, its_point);
+    let named = name_and_unit(out, typed, s, a);
+    let scaled = fixed_point(out, named, its_point);
     let gap = writer::byte(out, scaled, b' ');
     let valued = value(out, gap, s, its_value);
     writer::byte(out, valued, b']')
+}
+
+// Where an argument stands: `[FROM-TO `.
+fn place(out: &mut Out, at: usize, from: usize, to: usize) -> usize {
+    let begun = writer::labelled(out, at, b"[", from as u64);
+    let ended = writer::labelled(out, begun, b"-", to as u64);
+    writer::byte(out, ended, b' ')
+}
+
+// An argument's name and its unit, each a `-` where there is none.
+fn name_and_unit(out: &mut Out, at: usize, s: &[u8], a: Argument) -> usize {
+    let its_name = a.name;
+    let its_unit = a.unit;
+    let named = writer::maybe_range(out, at, b" name=", s, its_name);
+    writer::maybe_range(out, named, b" unit=", s, its_unit)
 }
 
 // Each signed number is shown as one of 64 bits.
@@ -60,26 +70,48 @@ fn offset(out: &mut Out, at: usize, o: FixedPointValue) -> usize {
     }
 }
 
-// A value, by its case.
+// A value, by its case: a text, raw bytes, a number of 128 bits, or one of fewer.
 fn value(out: &mut Out, at: usize, s: &[u8], v: Value) -> usize {
+    match v {
+        Value::U128 { high, low } => halves(out, at, b"u128:", high, low),
+        Value::I128 { high, low } => halves(out, at, b"i128:", writer::bits(high), low),
+        Value::StringVal(place) => writer::range(out, at, b"s:", s, place),
+        Value::Raw(place) => writer::range(out, at, b"r:", s, place),
+        _ => unsigned_value(out, at, v),
+    }
+}
+
+// A number that has no sign, or one of the others.
+fn unsigned_value(out: &mut Out, at: usize, v: Value) -> usize {
     match v {
         Value::Bool(n) => writer::labelled(out, at, b"b:", n as u64),
         Value::U8(n) => writer::labelled(out, at, b"u8:", n as u64),
         Value::U16(n) => writer::labelled(out, at, b"u16:", n as u64),
         Value::U32(n) => writer::labelled(out, at, b"u32:", n as u64),
         Value::U64(n) => writer::labelled(out, at, b"u64:", n),
-        Value::U128 { high, low } => halves(out, at, b"u128:", high, low),
+        _ => signed_value(out, at, v),
+    }
+}
+
+// A number with a sign, or one of the others.
+fn signed_value(out: &mut Out, at: usize, v: Value) -> usize {
+    match v {
         Value::I8(n) => writer::labelled_signed(out, at, b"i8:", from_i8(n)),
         Value::I16(n) => writer::labelled_signed(out, at, b"i16:", from_i16(n)),
         Value::I32(n) => writer::labelled_signed(out, at, b"i32:", from_i32(n)),
         Value::I64(n) => writer::labelled_signed(out, at, b"i64:", n),
-        Value::I128 { high, low } => halves(out, at, b"i128:", writer::bits(high), low),
+        _ => float_value(out, at, v),
+    }
+}
+
+// A float. The values above are none.
+fn float_value(out: &mut Out, at: usize, v: Value) -> usize {
+    match v {
         Value::F32(x) => float(out, at, Real32::Number(x)),
         Value::F32NotANumber(bits) => float(out, at, Real32::NotANumber(bits)),
         Value::F64(x) => long_float(out, at, Real64::Number(x)),
         Value::F64NotANumber(bits) => long_float(out, at, Real64::NotANumber(bits)),
-        Value::StringVal(place) => writer::range(out, at, b"s:", s, place),
-        Value::Raw(place) => writer::range(out, at, b"r:", s, place),
+        _ => at,
     }
 }
 

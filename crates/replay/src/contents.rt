@@ -15,23 +15,31 @@ use wire::Range;
 // The payload of a message that was read from `s` and ends at `end`.
 pub fn payload(out: &mut Out, at: usize, s: &[u8], p: PayloadContent, end: usize) -> usize {
     match p {
-        PayloadContent::Verbose(list) => {
-            let placed = span(out, at, b"V(", list.at, end);
-            every_argument(out, placed, s, list)
-        }
-        PayloadContent::NonVerbose(id, rest) => {
-            let done = writer::labelled(out, at, b"N(", id as u64);
-            writer::range(out, done, b")", s, rest)
-        }
+        PayloadContent::Verbose(list) => verbose(out, at, s, list, end),
+        PayloadContent::NonVerbose(id, rest) => numbered(out, at, b"N(", id as u64, s, rest),
         PayloadContent::ControlMsg(control, data) => {
-            let known = writer::labelled(out, at, b"C(", types::control_number(control));
-            writer::range(out, known, b")", s, data)
+            numbered(out, at, b"C(", types::control_number(control), s, data)
         }
-        PayloadContent::NetworkTrace(trace) => {
-            let begun = span(out, at, b"T(", trace.at, end);
-            every_raw(out, begun, s, trace)
-        }
+        PayloadContent::NetworkTrace(trace) => network_trace(out, at, s, trace, end),
     }
+}
+
+// A list of arguments, and where it stands.
+fn verbose(out: &mut Out, at: usize, s: &[u8], list: Cursor, end: usize) -> usize {
+    let placed = span(out, at, b"V(", list.at, end);
+    every_argument(out, placed, s, list)
+}
+
+// A list of raw values, and where it stands.
+fn network_trace(out: &mut Out, at: usize, s: &[u8], trace: RawCursor, end: usize) -> usize {
+    let placed = span(out, at, b"T(", trace.at, end);
+    every_raw(out, placed, s, trace)
+}
+
+// A kind of payload with its number, and the bytes behind the number: `N(ID)TEXT`.
+fn numbered(out: &mut Out, at: usize, front: &[u8], n: u64, s: &[u8], rest: Range) -> usize {
+    let known = writer::labelled(out, at, front, n);
+    writer::range(out, known, b")", s, rest)
 }
 
 // A kind of list, and where it stands: `V(FROM-TO)`.

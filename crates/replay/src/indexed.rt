@@ -183,30 +183,32 @@ fn taken(out: &mut Out, at: usize, limit: Limit, n: usize) -> usize {
     }
 }
 
-// The number, the state and the need.
-fn ending(out: &mut Out, at: usize, end: End, state: State) -> usize {
+// The number of an end.
+fn end_number(end: End) -> u64 {
     match end {
-        End::BadFilter => refused(out, at, b"1", state),
-        End::BadState => refused(out, at, b"5", state),
-        End::TooLong => refused(out, at, b"6", state),
-        End::Full => refused(out, at, b"7", state),
-        End::Paused => refused(out, at, b"8", state),
-        End::Waits(need) => {
-            let first = literal_state(out, at, b"0", state);
-            writer::labelled(out, first, b" need=", need as u64)
-        }
+        End::Waits(_) => 0,
+        End::BadFilter => 1,
+        End::BadState => 5,
+        End::TooLong => 6,
+        End::Full => 7,
+        End::Paused => 8,
     }
 }
 
-fn refused(out: &mut Out, at: usize, number: &[u8], state: State) -> usize {
-    let first = literal_state(out, at, number, state);
-    writer::literal(out, first, b" need=-")
+// The number, the state and the need.
+fn ending(out: &mut Out, at: usize, end: End, state: State) -> usize {
+    let numbered = writer::decimal(out, at, end_number(end));
+    let resume = writer::labelled(out, numbered, b" resume=", state.at as u64);
+    let used = writer::labelled(out, resume, b" used=", state.used as u64);
+    need(out, used, end)
 }
 
-fn literal_state(out: &mut Out, at: usize, number: &[u8], state: State) -> usize {
-    let first = writer::literal(out, at, number);
-    let resume = writer::labelled(out, first, b" resume=", state.at as u64);
-    writer::labelled(out, resume, b" used=", state.used as u64)
+// How many bytes are missing, or `-` where the call does not wait for any.
+fn need(out: &mut Out, at: usize, end: End) -> usize {
+    match end {
+        End::Waits(n) => writer::labelled(out, at, b" need=", n as u64),
+        _ => writer::literal(out, at, b" need=-"),
+    }
 }
 
 // The entries from `from` up to `to`.

@@ -61,15 +61,25 @@ fn number(out: &mut Out, at: usize, front: &[u8], n: OptNum) -> usize {
 
 // `ver=N end=L ctr=N plen=N ecu=.ID ses=N ts=N`
 fn standard_header(out: &mut Out, at: usize, s: &[u8], h: StandardHeader) -> usize {
+    let begun = fixed_fields(out, at, h);
+    optional_fields(out, begun, s, h)
+}
+
+// The fields that every standard header has.
+fn fixed_fields(out: &mut Out, at: usize, h: StandardHeader) -> usize {
     let endianness = h.endianness;
-    let ecu = h.ecu_id;
-    let session = h.session_id;
-    let time = h.timestamp;
     let versioned = writer::labelled(out, at, b" ver=", h.version as u64);
     let ordered = order(out, versioned, endianness);
     let counted = writer::labelled(out, ordered, b" ctr=", h.message_counter as u64);
-    let measured = writer::labelled(out, counted, b" plen=", h.payload_length as u64);
-    let named = writer::maybe_range(out, measured, b" ecu=", s, ecu);
+    writer::labelled(out, counted, b" plen=", h.payload_length as u64)
+}
+
+// The fields that a standard header may lack.
+fn optional_fields(out: &mut Out, at: usize, s: &[u8], h: StandardHeader) -> usize {
+    let ecu = h.ecu_id;
+    let session = h.session_id;
+    let time = h.timestamp;
+    let named = writer::maybe_range(out, at, b" ecu=", s, ecu);
     let numbered = number(out, named, b" ses=", session);
     number(out, numbered, b" ts=", time)
 }
@@ -86,11 +96,15 @@ fn extended_fields(out: &mut Out, at: usize, s: &[u8], e: ExtendedHeader) -> usi
     let its_type = e.message_type;
     let application = e.application_id;
     let context = e.context_id;
-    let verbose = types::flag_number(e.verbose);
-    let flagged = writer::labelled(out, at, b" ext=v", verbose);
-    let counted = writer::labelled(out, flagged, b",n", e.argument_count as u64);
-    let gap = writer::byte(out, counted, b',');
-    let typed = types::message_type(out, gap, its_type);
+    let counted = verbosity(out, at, e.verbose, e.argument_count as u64);
+    let typed = types::message_type(out, counted, its_type);
     let owned = writer::range(out, typed, b",.", s, application);
     writer::range(out, owned, b",.", s, context)
+}
+
+// Whether the payload is verbose, and how many arguments it has.
+fn verbosity(out: &mut Out, at: usize, verbose: bool, count: u64) -> usize {
+    let flagged = writer::labelled(out, at, b" ext=v", types::flag_number(verbose));
+    let counted = writer::labelled(out, flagged, b",n", count);
+    writer::byte(out, counted, b',')
 }

@@ -58,23 +58,31 @@ pub fn control_number(control: ControlType) -> u64 {
     }
 }
 
-pub fn message_type(out: &mut Out, at: usize, t: MessageType) -> usize {
+// The number of a message type's subtype.
+fn subtype_number(t: MessageType) -> u64 {
     match t {
-        MessageType::Log(level) => writer::labelled(out, at, b"log:", log_number(level)),
-        MessageType::ApplicationTrace(application) => {
-            writer::labelled(out, at, b"app:", application_number(application))
-        }
-        MessageType::NetworkTrace(network) => {
-            writer::labelled(out, at, b"net:", network_number(network))
-        }
-        MessageType::Control(control) => {
-            writer::labelled(out, at, b"ctl:", control_number(control))
-        }
-        MessageType::Unknown(kind, n) => {
-            let done = writer::labelled(out, at, b"unk:", kind as u64);
-            writer::labelled(out, done, b":", n as u64)
-        }
+        MessageType::Log(level) => log_number(level),
+        MessageType::ApplicationTrace(application) => application_number(application),
+        MessageType::NetworkTrace(network) => network_number(network),
+        MessageType::Control(control) => control_number(control),
+        MessageType::Unknown(_, n) => n as u64,
     }
+}
+
+// The name of a message type, and of one that is unknown its number too.
+fn type_name(out: &mut Out, at: usize, t: MessageType) -> usize {
+    match t {
+        MessageType::Log(_) => writer::literal(out, at, b"log"),
+        MessageType::ApplicationTrace(_) => writer::literal(out, at, b"app"),
+        MessageType::NetworkTrace(_) => writer::literal(out, at, b"net"),
+        MessageType::Control(_) => writer::literal(out, at, b"ctl"),
+        MessageType::Unknown(kind, _) => writer::labelled(out, at, b"unk:", kind as u64),
+    }
+}
+
+pub fn message_type(out: &mut Out, at: usize, t: MessageType) -> usize {
+    let named = type_name(out, at, t);
+    writer::labelled(out, named, b":", subtype_number(t))
 }
 
 // ---- type infos: the kind, the number of the coding, the two flags
@@ -101,23 +109,32 @@ fn width_in_bits(width: FloatWidth) -> u64 {
 fn kind(out: &mut Out, at: usize, k: TypeInfoKind) -> usize {
     match k {
         TypeInfoKind::Bool => writer::literal(out, at, b"Bool"),
-        TypeInfoKind::Signed(length) => writer::labelled(out, at, b"S", length_in_bits(length)),
-        TypeInfoKind::SignedFixedPoint(width) => writer::labelled(
-            out,
-            at,
-            b"SX",
-            width_in_bits(width),
-        ),
-        TypeInfoKind::Unsigned(length) => writer::labelled(out, at, b"U", length_in_bits(length)),
-        TypeInfoKind::UnsignedFixedPoint(width) => writer::labelled(
-            out,
-            at,
-            b"UX",
-            width_in_bits(width),
-        ),
-        TypeInfoKind::Float(width) => writer::labelled(out, at, b"F", width_in_bits(width)),
         TypeInfoKind::StringType => writer::literal(out, at, b"Str"),
         TypeInfoKind::Raw => writer::literal(out, at, b"Raw"),
+        _ => number_kind(out, at, k),
+    }
+}
+
+// The kind of a number: its letter, and how many bits it has.
+fn number_kind(out: &mut Out, at: usize, k: TypeInfoKind) -> usize {
+    match k {
+        TypeInfoKind::Signed(length) => writer::labelled(out, at, b"S", length_in_bits(length)),
+        TypeInfoKind::Unsigned(length) => writer::labelled(out, at, b"U", length_in_bits(length)),
+        TypeInfoKind::Float(width) => writer::labelled(out, at, b"F", width_in_bits(width)),
+        _ => fixed_point_kind(out, at, k),
+    }
+}
+
+// The kind of a fixed point number. The kinds above are none.
+fn fixed_point_kind(out: &mut Out, at: usize, k: TypeInfoKind) -> usize {
+    match k {
+        TypeInfoKind::SignedFixedPoint(width) => {
+            writer::labelled(out, at, b"SX", width_in_bits(width))
+        }
+        TypeInfoKind::UnsignedFixedPoint(width) => {
+            writer::labelled(out, at, b"UX", width_in_bits(width))
+        }
+        _ => at,
     }
 }
 
