@@ -3,7 +3,9 @@
 // filter takes `filter` too, one with type info words `words`.
 use crate::args;
 use crate::consume;
+use crate::digits;
 use crate::fields;
+use crate::fields::Field;
 use crate::fwd;
 use crate::indexed;
 use crate::len;
@@ -18,32 +20,40 @@ use crate::zts;
 // How many characters a line has at most.
 pub const LONGEST: usize = 300000;
 
-// The answer line, without the newline, of a kind that has neither a filter nor type info words.
-fn by_small_kind(line: &[u8], body: &mut [u8], out: &mut Out, at: usize) -> usize {
-    let kind = fields::word_at(line, 0);
+// The answer to a request that has one field alone behind its kind: bytes, which are `s`.
+fn by_bytes(line: &[u8], kind: Field, s: &[u8], out: &mut Out, at: usize) -> usize {
+    if fields::is(line, kind, b"fwd") {
+        return fwd::answer(s, out, at);
+    }
+    if fields::is(line, kind, b"skip") {
+        return skip::answer(s, out, at);
+    }
+    if fields::is(line, kind, b"consume") {
+        return consume::answer(s, out, at);
+    }
+    if fields::is(line, kind, b"len") {
+        return len::answer(s, out, at);
+    }
+    if fields::is(line, kind, b"mi") {
+        return mi::answer(s, out, at);
+    }
+    writer::bad_request(out, at)
+}
+
+// The answer line, without the newline, of a kind that has neither a filter nor a list of type info words.
+fn by_small_kind(line: &[u8], kind: Field, body: &mut [u8], out: &mut Out, at: usize) -> usize {
     let end = kind.end;
     if fields::is(line, kind, b"zts") {
         return zts::answer(line, end, body, out, at);
     }
-    if fields::is(line, kind, b"fwd") {
-        return fwd::answer(line, end, body, out, at);
-    }
-    if fields::is(line, kind, b"skip") {
-        return skip::answer(line, end, body, out, at);
-    }
-    if fields::is(line, kind, b"consume") {
-        return consume::answer(line, end, body, out, at);
-    }
-    if fields::is(line, kind, b"len") {
-        return len::answer(line, end, body, out, at);
-    }
-    if fields::is(line, kind, b"mi") {
-        return mi::answer(line, end, body, out, at);
-    }
     if fields::is(line, kind, b"ti") {
         return ti::answer(line, end, out, at);
     }
-    writer::bad_request(out, at)
+    let n = digits::last_bytes(line, end, body);
+    if body.len() < n {
+        return writer::bad_request(out, at);
+    }
+    by_bytes(line, kind, digits::first(body, n), out, at)
 }
 
 // The answer line, without the newline. `body`, `filter` and `words` are room for the request's bytes, its filter's and its type info words.
@@ -66,7 +76,7 @@ fn by_kind(
     if fields::is(line, kind, b"index") {
         return indexed::answer(line, end, body, filter, out, at);
     }
-    by_small_kind(line, body, out, at)
+    by_small_kind(line, kind, body, out, at)
 }
 
 // The answer line to a line.

@@ -8,26 +8,16 @@ use dlt::OptPoint;
 use dlt::Value;
 use reals::Real32;
 use reals::Real64;
+use wire::Range;
 
 // `[FROM-TO KIND,CODING,VARINFO,TRACEINFO name=.TEXT unit=.TEXT fp=QQQQQQQQ,i32:N VALUE]`, of an argument that was read from `s`.
 pub fn argument(out: &mut Out, at: usize, s: &[u8], a: Argument) -> usize {
     let info = a.type_info;
-    let its_point = a.fixed_point;
-    let its_value = a.value;
-    let placed = place(out, at, a.start, a.end);
+    let placed = writer::pattern(out, at, b"[#-# ", &[a.start as u64, a.end as u64]);
     let typed = types::type_info(out, placed, info);
     let named = name_and_unit(out, typed, s, a);
-    let scaled = fixed_point(out, named, its_point);
-    let gap = writer::byte(out, scaled, b' ');
-    let valued = value(out, gap, s, its_value);
+    let valued = point_and_value(out, named, s, a);
     writer::byte(out, valued, b']')
-}
-
-// Where an argument stands: `[FROM-TO `.
-fn place(out: &mut Out, at: usize, from: usize, to: usize) -> usize {
-    let begun = writer::labelled(out, at, b"[", from as u64);
-    let ended = writer::labelled(out, begun, b"-", to as u64);
-    writer::byte(out, ended, b' ')
 }
 
 // An argument's name and its unit, each a `-` where there is none.
@@ -36,6 +26,15 @@ fn name_and_unit(out: &mut Out, at: usize, s: &[u8], a: Argument) -> usize {
     let its_unit = a.unit;
     let named = writer::maybe_range(out, at, b" name=", s, its_name);
     writer::maybe_range(out, named, b" unit=", s, its_unit)
+}
+
+// An argument's fixed point, a `-` where there is none, and its value.
+fn point_and_value(out: &mut Out, at: usize, s: &[u8], a: Argument) -> usize {
+    let its_point = a.fixed_point;
+    let its_value = a.value;
+    let scaled = fixed_point(out, at, its_point);
+    let gap = writer::byte(out, scaled, b' ');
+    value(out, gap, s, its_value)
 }
 
 // Each signed number is shown as one of 64 bits.
@@ -70,54 +69,58 @@ fn offset(out: &mut Out, at: usize, o: FixedPointValue) -> usize {
     }
 }
 
-// A value, by its case: a text, raw bytes, a number of 128 bits, or one of fewer.
+// A value, by its case: a text, raw bytes, or a number.
 fn value(out: &mut Out, at: usize, s: &[u8], v: Value) -> usize {
     match v {
-        Value::U128 { high, low } => halves(out, at, b"u128:", high, low),
-        Value::I128 { high, low } => halves(out, at, b"i128:", writer::bits(high), low),
-        Value::StringVal(place) => writer::range(out, at, b"s:", s, place),
-        Value::Raw(place) => writer::range(out, at, b"r:", s, place),
-        _ => unsigned_value(out, at, v),
-    }
-}
-
-// A number that has no sign, or one of the others.
-fn unsigned_value(out: &mut Out, at: usize, v: Value) -> usize {
-    match v {
-        Value::Bool(n) => writer::labelled(out, at, b"b:", n as u64),
-        Value::U8(n) => writer::labelled(out, at, b"u8:", n as u64),
-        Value::U16(n) => writer::labelled(out, at, b"u16:", n as u64),
-        Value::U32(n) => writer::labelled(out, at, b"u32:", n as u64),
-        Value::U64(n) => writer::labelled(out, at, b"u64:", n),
-        _ => signed_value(out, at, v),
-    }
-}
-
-// A number with a sign, or one of the others.
-fn signed_value(out: &mut Out, at: usize, v: Value) -> usize {
-    match v {
-        Value::I8(n) => writer::labelled_signed(out, at, b"i8:", from_i8(n)),
-        Value::I16(n) => writer::labelled_signed(out, at, b"i16:", from_i16(n)),
-        Value::I32(n) => writer::labelled_signed(out, at, b"i32:", from_i32(n)),
-        Value::I64(n) => writer::labelled_signed(out, at, b"i64:", n),
-        _ => float_value(out, at, v),
-    }
-}
-
-// A float. The values above are none.
-fn float_value(out: &mut Out, at: usize, v: Value) -> usize {
-    match v {
+        Value::StringVal(place) => text(out, at, b's', s, place),
+        Value::Raw(place) => text(out, at, b'r', s, place),
+        Value::U128 { high, low } => halves(out, at, b'u', high, low),
+        Value::I128 { high, low } => halves(out, at, b'i', writer::bits(high), low),
         Value::F32(x) => float(out, at, Real32::Number(x)),
         Value::F32NotANumber(bits) => float(out, at, Real32::NotANumber(bits)),
         Value::F64(x) => long_float(out, at, Real64::Number(x)),
         Value::F64NotANumber(bits) => long_float(out, at, Real64::NotANumber(bits)),
+        _ => whole_number(out, at, v),
+    }
+}
+
+// A number of up to 64 bits that is no float. The values above are none.
+fn whole_number(out: &mut Out, at: usize, v: Value) -> usize {
+    match v {
+        Value::Bool(n) => writer::labelled(out, at, b"b:", n as u64),
+        Value::U8(n) => unsigned(out, at, 8, n as u64),
+        Value::U16(n) => unsigned(out, at, 16, n as u64),
+        Value::U32(n) => unsigned(out, at, 32, n as u64),
+        Value::U64(n) => unsigned(out, at, 64, n),
+        Value::I8(n) => signed(out, at, 8, from_i8(n)),
+        Value::I16(n) => signed(out, at, 16, from_i16(n)),
+        Value::I32(n) => signed(out, at, 32, from_i32(n)),
+        Value::I64(n) => signed(out, at, 64, n),
         _ => at,
     }
 }
 
+// A part of the bytes: `s:TEXT`.
+fn text(out: &mut Out, at: usize, letter: u8, s: &[u8], place: Range) -> usize {
+    let done = writer::byte(out, at, letter);
+    writer::range(out, done, b":", s, place)
+}
+
+// A number that has no sign: `u8:N`.
+fn unsigned(out: &mut Out, at: usize, bits: u64, n: u64) -> usize {
+    writer::pattern(out, at, b"u#:#", &[bits, n])
+}
+
+// A number with a sign: `i8:N`.
+fn signed(out: &mut Out, at: usize, bits: u64, n: i64) -> usize {
+    let done = writer::marked(out, at, b'i', bits);
+    writer::labelled_signed(out, done, b":", n)
+}
+
 // A number of 128 bits: each half is 16 digits.
-fn halves(out: &mut Out, at: usize, front: &[u8], high: u64, low: u64) -> usize {
-    let done = writer::labelled_hex(out, at, front, high, 16);
+fn halves(out: &mut Out, at: usize, letter: u8, high: u64, low: u64) -> usize {
+    let sized = writer::marked(out, at, letter, 128);
+    let done = writer::labelled_hex(out, sized, b":", high, 16);
     writer::hex_number(out, done, low, 16)
 }
 

@@ -15,38 +15,32 @@ use wire::Range;
 // The payload of a message that was read from `s` and ends at `end`.
 pub fn payload(out: &mut Out, at: usize, s: &[u8], p: PayloadContent, end: usize) -> usize {
     match p {
-        PayloadContent::Verbose(list) => verbose(out, at, s, list, end),
-        PayloadContent::NonVerbose(id, rest) => numbered(out, at, b"N(", id as u64, s, rest),
-        PayloadContent::ControlMsg(control, data) => {
-            numbered(out, at, b"C(", types::control_number(control), s, data)
+        PayloadContent::Verbose(list) => {
+            let placed = span(out, at, b'V', list.at, end);
+            every_argument(out, placed, s, list)
         }
-        PayloadContent::NetworkTrace(trace) => network_trace(out, at, s, trace, end),
+        PayloadContent::NonVerbose(id, rest) => numbered(out, at, b'N', id as u64, s, rest),
+        PayloadContent::ControlMsg(control, data) => {
+            numbered(out, at, b'C', types::control_number(control), s, data)
+        }
+        PayloadContent::NetworkTrace(trace) => {
+            let begun = span(out, at, b'T', trace.at, end);
+            every_raw(out, begun, s, trace)
+        }
     }
 }
 
-// A list of arguments, and where it stands.
-fn verbose(out: &mut Out, at: usize, s: &[u8], list: Cursor, end: usize) -> usize {
-    let placed = span(out, at, b"V(", list.at, end);
-    every_argument(out, placed, s, list)
-}
-
-// A list of raw values, and where it stands.
-fn network_trace(out: &mut Out, at: usize, s: &[u8], trace: RawCursor, end: usize) -> usize {
-    let placed = span(out, at, b"T(", trace.at, end);
-    every_raw(out, placed, s, trace)
-}
-
-// A kind of payload with its number, and the bytes behind the number: `N(ID)TEXT`.
-fn numbered(out: &mut Out, at: usize, front: &[u8], n: u64, s: &[u8], rest: Range) -> usize {
-    let known = writer::labelled(out, at, front, n);
+// A kind of payload with its number, and the bytes behind that: `N(ID)TEXT`.
+fn numbered(out: &mut Out, at: usize, letter: u8, n: u64, s: &[u8], rest: Range) -> usize {
+    let kind = writer::byte(out, at, letter);
+    let known = writer::marked(out, kind, b'(', n);
     writer::range(out, known, b")", s, rest)
 }
 
 // A kind of list, and where it stands: `V(FROM-TO)`.
-fn span(out: &mut Out, at: usize, front: &[u8], from: usize, to: usize) -> usize {
-    let begun = writer::labelled(out, at, front, from as u64);
-    let ended = writer::labelled(out, begun, b"-", to as u64);
-    writer::byte(out, ended, b')')
+fn span(out: &mut Out, at: usize, letter: u8, from: usize, to: usize) -> usize {
+    let kind = writer::byte(out, at, letter);
+    writer::pattern(out, kind, b"(#-#)", &[from as u64, to as u64])
 }
 
 // The cursor's next argument. A list that was read has no argument that cannot be read again: one would be its end.

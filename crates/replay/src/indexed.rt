@@ -197,10 +197,9 @@ fn end_number(end: End) -> u64 {
 
 // The number, the state and the need.
 fn ending(out: &mut Out, at: usize, end: End, state: State) -> usize {
-    let numbered = writer::decimal(out, at, end_number(end));
-    let resume = writer::labelled(out, numbered, b" resume=", state.at as u64);
-    let used = writer::labelled(out, resume, b" used=", state.used as u64);
-    need(out, used, end)
+    let numbers = [end_number(end), state.at as u64, state.used as u64];
+    let done = writer::pattern(out, at, b"# resume=# used=#", &numbers);
+    need(out, done, end)
 }
 
 // How many bytes are missing, or `-` where the call does not wait for any.
@@ -225,25 +224,20 @@ fn entries(out: &mut Out, at: usize, table: &[u64], from: usize, to: usize) -> u
     done
 }
 
+// An entry: its start, how many bytes were skipped, its length and its kind.
 fn entry(out: &mut Out, at: usize, e: &[u64]) -> usize {
     if e.len() < 4 {
         return at;
     }
-    let start = writer::labelled(out, at, b" (", e[0]);
-    let skipped = writer::labelled(out, start, b" ", e[1]);
-    let length = writer::labelled(out, skipped, b" ", e[2]);
-    kind(out, length, e[3])
+    let done = writer::pattern(out, at, b" (# # # ", e);
+    kind(out, done, e[3])
 }
 
 fn kind(out: &mut Out, at: usize, kind: u64) -> usize {
-    if kind == 0 {
-        return writer::literal(out, at, b" item)");
+    match kind {
+        0 => writer::literal(out, at, b"item)"),
+        1 => writer::literal(out, at, b"filtered)"),
+        2 => writer::literal(out, at, b"hickup)"),
+        _ => writer::literal(out, at, b"unrecoverable)"),
     }
-    if kind == 1 {
-        return writer::literal(out, at, b" filtered)");
-    }
-    if kind == 2 {
-        return writer::literal(out, at, b" hickup)");
-    }
-    writer::literal(out, at, b" unrecoverable)")
 }

@@ -20,11 +20,7 @@ pub fn answer(
 ) -> usize {
     let mode = fields::after(line, kind_end);
     let chosen = fields::after(line, mode.end);
-    let bytes = fields::after(line, chosen.end);
-    if bytes.end != line.len() {
-        return writer::bad_request(out, at);
-    }
-    let n = digits::hex_bytes(line, bytes, body);
+    let n = digits::last_bytes(line, chosen.end, body);
     if body.len() < n {
         return writer::bad_request(out, at);
     }
@@ -32,9 +28,19 @@ pub fn answer(
     if filter.len() < k {
         return writer::bad_request(out, at);
     }
-    let s = digits::first(body, n);
-    let f = digits::first(filter, k);
-    match digits::storage(line, mode) {
+    let with_storage_header = digits::storage(line, mode);
+    by_mode(
+        digits::first(body, n),
+        digits::first(filter, k),
+        with_storage_header,
+        out,
+        at,
+    )
+}
+
+// The answer for a message with a storage header, or for one without.
+fn by_mode(s: &[u8], f: &[u8], with_storage_header: Flag, out: &mut Out, at: usize) -> usize {
+    match with_storage_header {
         Flag::Yes => shown(s, f, true, out, at),
         Flag::No => shown(s, f, false, out, at),
         Flag::Bad => writer::bad_request(out, at),
@@ -61,8 +67,12 @@ fn parsed(s: &[u8], got: GotParsed, out: &mut Out, at: usize) -> usize {
             message::message(out, used, s, m, end)
         }
         ParsedMessage::FilteredOut(n) => {
-            let used = writer::labelled(out, at, b"0 filtered used=", end as u64);
-            writer::labelled(out, used, b" plen=", n as u64)
+            writer::pattern(
+                out,
+                at,
+                b"0 filtered used=# plen=#",
+                &[end as u64, n as u64],
+            )
         }
     }
 }

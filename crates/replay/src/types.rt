@@ -58,31 +58,22 @@ pub fn control_number(control: ControlType) -> u64 {
     }
 }
 
-// The number of a message type's subtype.
-fn subtype_number(t: MessageType) -> u64 {
-    match t {
-        MessageType::Log(level) => log_number(level),
-        MessageType::ApplicationTrace(application) => application_number(application),
-        MessageType::NetworkTrace(network) => network_number(network),
-        MessageType::Control(control) => control_number(control),
-        MessageType::Unknown(_, n) => n as u64,
-    }
-}
-
-// The name of a message type, and of one that is unknown its number too.
-fn type_name(out: &mut Out, at: usize, t: MessageType) -> usize {
-    match t {
-        MessageType::Log(_) => writer::literal(out, at, b"log"),
-        MessageType::ApplicationTrace(_) => writer::literal(out, at, b"app"),
-        MessageType::NetworkTrace(_) => writer::literal(out, at, b"net"),
-        MessageType::Control(_) => writer::literal(out, at, b"ctl"),
-        MessageType::Unknown(kind, _) => writer::labelled(out, at, b"unk:", kind as u64),
-    }
-}
-
 pub fn message_type(out: &mut Out, at: usize, t: MessageType) -> usize {
-    let named = type_name(out, at, t);
-    writer::labelled(out, named, b":", subtype_number(t))
+    match t {
+        MessageType::Log(level) => writer::labelled(out, at, b"log:", log_number(level)),
+        MessageType::ApplicationTrace(application) => {
+            writer::labelled(out, at, b"app:", application_number(application))
+        }
+        MessageType::NetworkTrace(network) => {
+            writer::labelled(out, at, b"net:", network_number(network))
+        }
+        MessageType::Control(control) => {
+            writer::labelled(out, at, b"ctl:", control_number(control))
+        }
+        MessageType::Unknown(kind, n) => {
+            writer::pattern(out, at, b"unk:#:#", &[kind as u64, n as u64])
+        }
+    }
 }
 
 // ---- type infos: the kind, the number of the coding, the two flags
@@ -115,27 +106,21 @@ fn kind(out: &mut Out, at: usize, k: TypeInfoKind) -> usize {
     }
 }
 
-// The kind of a number: its letter, and how many bits it has.
+// The kind of a number: a letter, an X where it is a fixed point number, and how many bits it has. The kinds above are none.
 fn number_kind(out: &mut Out, at: usize, k: TypeInfoKind) -> usize {
     match k {
-        TypeInfoKind::Signed(length) => writer::labelled(out, at, b"S", length_in_bits(length)),
-        TypeInfoKind::Unsigned(length) => writer::labelled(out, at, b"U", length_in_bits(length)),
-        TypeInfoKind::Float(width) => writer::labelled(out, at, b"F", width_in_bits(width)),
-        _ => fixed_point_kind(out, at, k),
+        TypeInfoKind::Signed(length) => writer::marked(out, at, b'S', length_in_bits(length)),
+        TypeInfoKind::Unsigned(length) => writer::marked(out, at, b'U', length_in_bits(length)),
+        TypeInfoKind::Float(width) => writer::marked(out, at, b'F', width_in_bits(width)),
+        TypeInfoKind::SignedFixedPoint(width) => fixed_point(out, at, b'S', width),
+        TypeInfoKind::UnsignedFixedPoint(width) => fixed_point(out, at, b'U', width),
+        _ => at,
     }
 }
 
-// The kind of a fixed point number. The kinds above are none.
-fn fixed_point_kind(out: &mut Out, at: usize, k: TypeInfoKind) -> usize {
-    match k {
-        TypeInfoKind::SignedFixedPoint(width) => {
-            writer::labelled(out, at, b"SX", width_in_bits(width))
-        }
-        TypeInfoKind::UnsignedFixedPoint(width) => {
-            writer::labelled(out, at, b"UX", width_in_bits(width))
-        }
-        _ => at,
-    }
+fn fixed_point(out: &mut Out, at: usize, letter: u8, width: FloatWidth) -> usize {
+    let done = writer::byte(out, at, letter);
+    writer::marked(out, done, b'X', width_in_bits(width))
 }
 
 fn coding_number(coding: StringCoding) -> u64 {
@@ -153,10 +138,11 @@ pub fn flag_number(flag: bool) -> u64 {
 pub fn type_info(out: &mut Out, at: usize, t: TypeInfo) -> usize {
     let shown_kind = t.kind;
     let coding = t.coding;
-    let kind_done = kind(out, at, shown_kind);
-    let coding_done = writer::labelled(out, kind_done, b",", coding_number(coding));
-    let variable = flag_number(t.has_variable_info);
-    let variable_done = writer::labelled(out, coding_done, b",", variable);
-    let trace = flag_number(t.has_trace_info);
-    writer::labelled(out, variable_done, b",", trace)
+    let done = kind(out, at, shown_kind);
+    let numbers = [
+        coding_number(coding),
+        flag_number(t.has_variable_info),
+        flag_number(t.has_trace_info),
+    ];
+    writer::pattern(out, done, b",#,#,#", &numbers)
 }
