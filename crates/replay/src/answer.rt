@@ -1,6 +1,6 @@
-// The answer to one request, by its kind. A further kind is one more `if` in `by_kind`, and a module like zts: its function `answer` reads
-// the fields, writes `bad request` and nothing else where one of them is wrong, and answers how many bytes wait in `out` then. A kind with a
-// filter takes `filter` too, one with type info words `words`.
+// The answer to one request, by its kind. A further kind is one more `if` here, and a module like zts: its function `answer` reads
+// the fields, writes `bad request` and nothing else where one of them is wrong, and answers how many bytes wait in `out` then. A kind with
+// type info words takes `words` too. One that has bytes alone is an `if` in `by_bytes`, and a module like fwd, which is given the bytes.
 use crate::args;
 use crate::consume;
 use crate::digits;
@@ -56,42 +56,28 @@ fn by_small_kind(line: &[u8], kind: Field, body: &mut [u8], out: &mut Out, at: u
     by_bytes(line, kind, digits::first(body, n), out, at)
 }
 
-// The answer line, without the newline. `body`, `filter` and `words` are room for the request's bytes, its filter's and its type info words.
-fn by_kind(
-    line: &[u8],
-    body: &mut [u8],
-    filter: &mut [u8],
-    words: &mut [u32],
-    out: &mut Out,
-    at: usize,
-) -> usize {
+// The answer line, without the newline. `body` and `words` are room for the request's bytes and its type info words.
+fn by_kind(line: &[u8], body: &mut [u8], words: &mut [u32], out: &mut Out, at: usize) -> usize {
     let kind = fields::word_at(line, 0);
     let end = kind.end;
     if fields::is(line, kind, b"msg") {
-        return msg::answer(line, end, body, filter, out, at);
+        return msg::answer(line, end, body, out, at);
     }
     if fields::is(line, kind, b"args") {
         return args::answer(line, end, body, words, out, at);
     }
     if fields::is(line, kind, b"index") {
-        return indexed::answer(line, end, body, filter, out, at);
+        return indexed::answer(line, end, body, out, at);
     }
     by_small_kind(line, kind, body, out, at)
 }
 
 // The answer line to a line.
-pub fn line(
-    line: &[u8],
-    body: &mut [u8],
-    filter: &mut [u8],
-    words: &mut [u32],
-    out: &mut Out,
-    at: usize,
-) -> usize {
+pub fn line(line: &[u8], body: &mut [u8], words: &mut [u32], out: &mut Out, at: usize) -> usize {
     if LONGEST < line.len() {
         return too_long(out, at);
     }
-    let done = by_kind(line, body, filter, words, out, at);
+    let done = by_kind(line, body, words, out, at);
     writer::byte(out, done, b'\n')
 }
 

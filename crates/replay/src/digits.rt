@@ -170,7 +170,7 @@ fn comma(line: &[u8], from: usize, end: usize) -> usize
 // The hex numbers that commas join in a field, or none for `-`, at the front of `words`. Answers how many, or more than `words` holds where
 // the field is no such list or has too many.
 pub fn hex_words(line: &[u8], f: Field, words: &mut [u32]) -> usize {
-    if fields::is(line, f, b"-") {
+    if only_letter(line, f) == b'-' {
         return 0;
     }
     let end = f.end;
@@ -263,6 +263,14 @@ pub fn last_bytes(line: &[u8], end: usize, body: &mut [u8]) -> usize {
 pub fn first<'a>(s: &'a [u8], n: usize) -> &'a [u8] {
     if n <= s.len() {
         return &s[..n];
+    }
+    s
+}
+
+// The `k` bytes behind the first `n`, or all behind those where there are fewer.
+pub fn behind<'a>(s: &'a [u8], n: usize, k: usize) -> &'a [u8] {
+    if n <= s.len() {
+        return first(&s[n..], k);
     }
     s
 }

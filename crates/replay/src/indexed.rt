@@ -110,14 +110,7 @@ fn most_of(limit: Limit) -> usize {
 }
 
 // The answer to a request whose kind ends at `kind_end`.
-pub fn answer(
-    line: &[u8],
-    kind_end: usize,
-    body: &mut [u8],
-    filter: &mut [u8],
-    out: &mut Out,
-    at: usize,
-) -> usize {
+pub fn answer(line: &[u8], kind_end: usize, body: &mut [u8], out: &mut Out, at: usize) -> usize {
     let numbers = front_of(line, kind_end);
     let chosen = fields::after(line, numbers.end);
     let bytes = fields::after(line, chosen.end);
@@ -126,13 +119,26 @@ pub fn answer(
     if body.len() < n {
         return writer::bad_request(out, at);
     }
-    let k = digits::hex_bytes(line, chosen, filter);
-    if filter.len() < k {
+    let k = digits::hex_bytes(line, chosen, &mut body[n..]);
+    if body.len() - n < k {
         return writer::bad_request(out, at);
     }
-    let s = digits::first(body, n);
-    let f = digits::first(filter, k);
     let asked = numbers.asked;
+    by_numbers(body, n, k, asked, limit, out, at)
+}
+
+// The answer by the numbers of a request. Its bytes are the first `n`, its filter's the `k` behind them.
+fn by_numbers(
+    body: &[u8],
+    n: usize,
+    k: usize,
+    asked: Asked,
+    limit: Limit,
+    out: &mut Out,
+    at: usize,
+) -> usize {
+    let s = digits::first(body, n);
+    let f = digits::behind(body, n, k);
     match asked {
         Asked::Good(request) => shown(s, f, request, limit, out, at),
         Asked::Bad => writer::bad_request(out, at),

@@ -10,36 +10,32 @@ use parse::MessageAns;
 use parse::ParsedMessage;
 
 // The answer to a request whose kind ends at `kind_end`.
-pub fn answer(
-    line: &[u8],
-    kind_end: usize,
-    body: &mut [u8],
-    filter: &mut [u8],
-    out: &mut Out,
-    at: usize,
-) -> usize {
+pub fn answer(line: &[u8], kind_end: usize, body: &mut [u8], out: &mut Out, at: usize) -> usize {
     let mode = fields::after(line, kind_end);
     let chosen = fields::after(line, mode.end);
     let n = digits::last_bytes(line, chosen.end, body);
     if body.len() < n {
         return writer::bad_request(out, at);
     }
-    let k = digits::hex_bytes(line, chosen, filter);
-    if filter.len() < k {
+    let k = digits::hex_bytes(line, chosen, &mut body[n..]);
+    if body.len() - n < k {
         return writer::bad_request(out, at);
     }
     let with_storage_header = digits::storage(line, mode);
-    by_mode(
-        digits::first(body, n),
-        digits::first(filter, k),
-        with_storage_header,
-        out,
-        at,
-    )
+    by_mode(body, n, k, with_storage_header, out, at)
 }
 
-// The answer for a message with a storage header, or for one without.
-fn by_mode(s: &[u8], f: &[u8], with_storage_header: Flag, out: &mut Out, at: usize) -> usize {
+// The answer for a message with a storage header, or for one without. Its bytes are the first `n`, its filter's the `k` behind them.
+fn by_mode(
+    body: &[u8],
+    n: usize,
+    k: usize,
+    with_storage_header: Flag,
+    out: &mut Out,
+    at: usize,
+) -> usize {
+    let s = digits::first(body, n);
+    let f = digits::behind(body, n, k);
     match with_storage_header {
         Flag::Yes => shown(s, f, true, out, at),
         Flag::No => shown(s, f, false, out, at),
