@@ -72,8 +72,18 @@ fn by_kind(line: &[u8], body: &mut [u8], words: &mut [u32], out: &mut Out, at: u
     by_small_kind(line, kind, body, out, at)
 }
 
-// The answer line to a line.
-pub fn line(line: &[u8], body: &mut [u8], words: &mut [u32], out: &mut Out, at: usize) -> usize {
+// The answer line to a line. The end of a line that was too long is `dropped`: the line has its answer.
+pub fn line(
+    line: &[u8],
+    dropped: bool,
+    body: &mut [u8],
+    words: &mut [u32],
+    out: &mut Out,
+    at: usize,
+) -> usize {
+    if dropped {
+        return at;
+    }
     if LONGEST < line.len() {
         return too_long(out, at);
     }

@@ -13,28 +13,18 @@ use wire::Range;
 // `[FROM-TO KIND,CODING,VARINFO,TRACEINFO name=.TEXT unit=.TEXT fp=QQQQQQQQ,i32:N VALUE]`, of an argument that was read from `s`.
 pub fn argument(out: &mut Out, at: usize, s: &[u8], a: Argument) -> usize {
     let info = a.type_info;
-    let placed = writer::pattern(out, at, b"[#-# ", &[a.start as u64, a.end as u64]);
-    let typed = types::type_info(out, placed, info);
-    let named = name_and_unit(out, typed, s, a);
-    let valued = point_and_value(out, named, s, a);
-    writer::byte(out, valued, b']')
-}
-
-// An argument's name and its unit, each a `-` where there is none.
-fn name_and_unit(out: &mut Out, at: usize, s: &[u8], a: Argument) -> usize {
     let its_name = a.name;
     let its_unit = a.unit;
-    let named = writer::maybe_range(out, at, b" name=", s, its_name);
-    writer::maybe_range(out, named, b" unit=", s, its_unit)
-}
-
-// An argument's fixed point, a `-` where there is none, and its value.
-fn point_and_value(out: &mut Out, at: usize, s: &[u8], a: Argument) -> usize {
     let its_point = a.fixed_point;
     let its_value = a.value;
-    let scaled = fixed_point(out, at, its_point);
+    let placed = writer::pattern(out, at, b"[#-# ", &[a.start as u64, a.end as u64]);
+    let typed = types::type_info(out, placed, info);
+    let named = writer::maybe_range(out, typed, b" name=", s, its_name);
+    let measured = writer::maybe_range(out, named, b" unit=", s, its_unit);
+    let scaled = fixed_point(out, measured, its_point);
     let gap = writer::byte(out, scaled, b' ');
-    value(out, gap, s, its_value)
+    let valued = value(out, gap, s, its_value);
+    writer::byte(out, valued, b']')
 }
 
 // Each signed number is shown as one of 64 bits.

@@ -42,21 +42,6 @@ fn newline(block: &[u8], from: usize) -> usize
     i
 }
 
-// Answers a line, unless it is the end of one that was too long and has its answer.
-fn answer_line(
-    line: &[u8],
-    dropping: bool,
-    body: &mut [u8],
-    words: &mut [u32],
-    out: &mut Out,
-    at: usize,
-) -> usize {
-    if dropping {
-        return at;
-    }
-    answer::line(line, body, words, out, at)
-}
-
 // Answers each line of a block that ends in a newline, and writes the answers out. The first `seen` bytes have no newline. What stands from
 // `kept` on is the beginning of the next line.
 fn answer_lines(
@@ -72,7 +57,7 @@ fn answer_lines(
     let mut at = 0;
     let mut end = newline(block, seen);
     while end < block.len() {
-        at = answer_line(&block[start..end], dropping, body, words, out, at);
+        at = answer::line(&block[start..end], dropping, body, words, out, at);
         dropping = false;
         start = end + 1;
         end = newline(block, start);
@@ -134,7 +119,7 @@ fn finish(line: &[u8], body: &mut [u8], words: &mut [u32], out: &mut Out) -> Fee
     if line.len() == 0 {
         return end;
     }
-    let at = answer::line(line, body, words, out, 0);
+    let at = answer::line(line, false, body, words, out, 0);
     writer::flush(out, at);
     end
 }

@@ -14,18 +14,19 @@ use storage::Stored;
 
 // What stands behind `used`, of a message that was read from `s` and ends at `end`.
 pub fn message(out: &mut Out, at: usize, s: &[u8], m: Message, end: usize) -> usize {
+    let its_storage = m.storage_header;
     let its_standard = m.header;
+    let its_extended = m.extended_header;
     let its_payload = m.payload;
-    let stored = storage_header(out, at, s, m);
+    let stored = storage_header(out, at, s, its_storage);
     let headed = standard_header(out, stored, s, its_standard);
-    let extended = extended_header(out, headed, s, m);
+    let extended = extended_header(out, headed, s, its_extended);
     let front = writer::literal(out, extended, b" pay=");
     contents::payload(out, front, s, its_payload, end)
 }
 
-fn storage_header(out: &mut Out, at: usize, s: &[u8], m: Message) -> usize {
-    let its_storage = m.storage_header;
-    match its_storage {
+fn storage_header(out: &mut Out, at: usize, s: &[u8], o: OptStored) -> usize {
+    match o {
         OptStored::Present(header) => stored_fields(out, at, s, header),
         OptStored::Absent => writer::literal(out, at, b" sh=-"),
     }
@@ -74,9 +75,8 @@ fn standard_header(out: &mut Out, at: usize, s: &[u8], h: StandardHeader) -> usi
     number(out, numbered, b" ts=", time)
 }
 
-fn extended_header(out: &mut Out, at: usize, s: &[u8], m: Message) -> usize {
-    let its_extended = m.extended_header;
-    match its_extended {
+fn extended_header(out: &mut Out, at: usize, s: &[u8], o: OptExtended) -> usize {
+    match o {
         OptExtended::Present(header) => extended_fields(out, at, s, header),
         OptExtended::Absent => writer::literal(out, at, b" ext=-"),
     }

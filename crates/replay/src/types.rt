@@ -118,6 +118,7 @@ fn number_kind(out: &mut Out, at: usize, k: TypeInfoKind) -> usize {
     }
 }
 
+// The kind of a fixed point number: `SX32`.
 fn fixed_point(out: &mut Out, at: usize, letter: u8, width: FloatWidth) -> usize {
     let done = writer::byte(out, at, letter);
     writer::marked(out, done, b'X', width_in_bits(width))
