@@ -92,8 +92,9 @@ fn whole_number(out: &mut Out, at: usize, v: Value) -> usize {
 
 // A part of the bytes: `s:TEXT`.
 fn text(out: &mut Out, at: usize, letter: u8, s: &[u8], place: Range) -> usize {
-    let done = writer::byte(out, at, letter);
-    writer::range(out, done, b":", s, place)
+    let kind = writer::byte(out, at, letter);
+    let done = writer::byte(out, kind, b':');
+    writer::text(out, done, s, place.start, place.len)
 }
 
 // A number that has no sign: `u8:N`.
@@ -103,14 +104,16 @@ fn unsigned(out: &mut Out, at: usize, bits: u64, n: u64) -> usize {
 
 // A number with a sign: `i8:N`.
 fn signed(out: &mut Out, at: usize, bits: u64, n: i64) -> usize {
-    let done = writer::marked(out, at, b'i', bits);
-    writer::labelled_signed(out, done, b":", n)
+    let sized = writer::marked(out, at, b'i', bits);
+    let done = writer::byte(out, sized, b':');
+    writer::signed(out, done, n)
 }
 
 // A number of 128 bits: each half is 16 digits.
 fn halves(out: &mut Out, at: usize, letter: u8, high: u64, low: u64) -> usize {
     let sized = writer::marked(out, at, letter, 128);
-    let done = writer::labelled_hex(out, sized, b":", high, 16);
+    let front = writer::byte(out, sized, b':');
+    let done = writer::hex_number(out, front, high, 16);
     writer::hex_number(out, done, low, 16)
 }
 

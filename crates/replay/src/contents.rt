@@ -34,7 +34,8 @@ pub fn payload(out: &mut Out, at: usize, s: &[u8], p: PayloadContent, end: usize
 fn numbered(out: &mut Out, at: usize, letter: u8, n: u64, s: &[u8], rest: Range) -> usize {
     let kind = writer::byte(out, at, letter);
     let known = writer::marked(out, kind, b'(', n);
-    writer::range(out, known, b")", s, rest)
+    let done = writer::byte(out, known, b')');
+    writer::text(out, done, s, rest.start, rest.len)
 }
 
 // A kind of list, and where it stands: `V(FROM-TO)`.
@@ -107,6 +108,7 @@ fn every_raw(out: &mut Out, at: usize, s: &[u8], trace: RawCursor) -> usize {
 
 // A raw value, as `[TEXT]`.
 fn raw(out: &mut Out, at: usize, s: &[u8], place: Range) -> usize {
-    let shown = writer::range(out, at, b"[", s, place);
+    let begun = writer::byte(out, at, b'[');
+    let shown = writer::text(out, begun, s, place.start, place.len);
     writer::byte(out, shown, b']')
 }

@@ -137,10 +137,12 @@ fn by_numbers(
     out: &mut Out,
     at: usize,
 ) -> usize {
-    let s = digits::first(body, n);
-    let f = digits::behind(body, n, k);
     match asked {
-        Asked::Good(request) => shown(s, f, request, limit, out, at),
+        Asked::Good(request) => {
+            let s = digits::first(body, n);
+            let f = digits::behind(body, n, k);
+            shown(s, f, request, limit, out, at)
+        }
         Asked::Bad => writer::bad_request(out, at),
     }
 }

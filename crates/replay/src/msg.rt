@@ -45,11 +45,11 @@ fn by_mode(
 
 fn shown(s: &[u8], f: &[u8], with_storage_header: bool, out: &mut Out, at: usize) -> usize {
     match parse::dlt_message(s, f, with_storage_header) {
-        MessageAns::BadFilter => writer::literal(out, at, b"1"),
+        MessageAns::BadFilter => writer::byte(out, at, b'1'),
         MessageAns::Done(got) => parsed(s, got, out, at),
         MessageAns::Need(need) => writer::need(out, at, need),
         MessageAns::Hickup(reason) => writer::hickup(out, at, reason),
-        MessageAns::Broken => writer::literal(out, at, b"4"),
+        MessageAns::Broken => writer::byte(out, at, b'4'),
     }
 }
 

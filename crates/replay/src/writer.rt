@@ -160,7 +160,10 @@ pub fn range(out: &mut Out, at: usize, label: &[u8], s: &[u8], place: Range) -> 
 pub fn maybe_range(out: &mut Out, at: usize, label: &[u8], s: &[u8], place: OptRange) -> usize {
     let done = literal(out, at, label);
     match place {
-        OptRange::Present(found) => range(out, done, b".", s, found),
+        OptRange::Present(found) => {
+            let dot = byte(out, done, b'.');
+            text(out, dot, s, found.start, found.len)
+        }
         OptRange::Absent => byte(out, done, b'-'),
     }
 }
