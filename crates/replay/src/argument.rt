@@ -42,20 +42,22 @@ fn from_i32(n: i32) -> i64 {
 
 // The quantization's pattern and the offset, or `-`.
 fn fixed_point(out: &mut Out, at: usize, point: OptPoint) -> usize {
+    let front = writer::literal(out, at, b" fp=");
     match point {
         OptPoint::Present(p) => {
             let its_offset = p.offset;
-            let done = writer::labelled_hex(out, at, b" fp=", p.pattern as u64, 8);
+            let done = writer::hex_number(out, front, p.pattern as u64, 8);
             offset(out, done, its_offset)
         }
-        OptPoint::Absent => writer::literal(out, at, b" fp=-"),
+        OptPoint::Absent => writer::byte(out, front, b'-'),
     }
 }
 
 fn offset(out: &mut Out, at: usize, o: FixedPointValue) -> usize {
+    let comma = writer::byte(out, at, b',');
     match o {
-        FixedPointValue::I32(n) => writer::labelled_signed(out, at, b",i32:", from_i32(n)),
-        FixedPointValue::I64(n) => writer::labelled_signed(out, at, b",i64:", n),
+        FixedPointValue::I32(n) => signed(out, comma, 32, from_i32(n)),
+        FixedPointValue::I64(n) => signed(out, comma, 64, n),
     }
 }
 
@@ -77,7 +79,10 @@ fn value(out: &mut Out, at: usize, s: &[u8], v: Value) -> usize {
 // A number of up to 64 bits that is no float. The values above are none.
 fn whole_number(out: &mut Out, at: usize, v: Value) -> usize {
     match v {
-        Value::Bool(n) => writer::labelled(out, at, b"b:", n as u64),
+        Value::Bool(n) => {
+            let letter = writer::byte(out, at, b'b');
+            writer::marked(out, letter, b':', n as u64)
+        }
         Value::U8(n) => unsigned(out, at, 8, n as u64),
         Value::U16(n) => unsigned(out, at, 16, n as u64),
         Value::U32(n) => unsigned(out, at, 32, n as u64),

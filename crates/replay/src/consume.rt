@@ -19,8 +19,9 @@ pub fn answer(s: &[u8], out: &mut Out, at: usize) -> usize {
 
 // How many bytes the message had: `-` where there was none.
 fn count(c: OptCount, out: &mut Out, at: usize) -> usize {
+    let front = writer::literal(out, at, b" count=");
     match c {
-        OptCount::Present(n) => writer::labelled(out, at, b" count=", n),
-        OptCount::Absent => writer::literal(out, at, b" count=-"),
+        OptCount::Present(n) => writer::decimal(out, front, n),
+        OptCount::Absent => writer::byte(out, front, b'-'),
     }
 }

@@ -212,9 +212,10 @@ fn ending(out: &mut Out, at: usize, end: End, state: State) -> usize {
 
 // How many bytes are missing, or `-` where the call does not wait for any.
 fn need(out: &mut Out, at: usize, end: End) -> usize {
+    let front = writer::literal(out, at, b" need=");
     match end {
-        End::Waits(n) => writer::labelled(out, at, b" need=", n as u64),
-        _ => writer::literal(out, at, b" need=-"),
+        End::Waits(n) => writer::decimal(out, front, n as u64),
+        _ => writer::byte(out, front, b'-'),
     }
 }
 

@@ -94,12 +94,6 @@ pub fn labelled(out: &mut Out, at: usize, label: &[u8], n: u64) -> usize {
     decimal(out, next, n)
 }
 
-// A label and a number in decimal, with a `-` between where it is negative.
-pub fn labelled_signed(out: &mut Out, at: usize, label: &[u8], n: i64) -> usize {
-    let next = literal(out, at, label);
-    signed(out, next, n)
-}
-
 // The bits of a number, by two's complement.
 pub fn bits(n: i64) -> u64 {
     let m = magnitude(n);
