@@ -53,6 +53,7 @@ fn fixed_point(out: &mut Out, at: usize, point: OptPoint) -> usize {
     }
 }
 
+// The offset of a fixed point: `,i32:N`.
 fn offset(out: &mut Out, at: usize, o: FixedPointValue) -> usize {
     let comma = writer::byte(out, at, b',');
     match o {

@@ -38,7 +38,7 @@ fn block_room() -> [u8; 1048576]
     [0; 1048576]
 }
 
-// Room for the bytes of a line of 300,000 characters, and for those of its filter.
+// Room for the bytes that a line of 300,000 characters spells, its filter's among them.
 fn body_room() -> [u8; 150000]
     ensures { λ r. ⌜ 150000 ≡ length r ⌝ }
 {
