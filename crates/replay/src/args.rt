@@ -21,11 +21,7 @@ pub fn answer(
 ) -> usize {
     let order = fields::after(line, kind_end);
     let list = fields::after(line, order.end);
-    let bytes = fields::after(line, list.end);
-    if bytes.end != line.len() {
-        return writer::bad_request(out, at);
-    }
-    let n = digits::hex_bytes(line, bytes, body);
+    let n = digits::last_bytes(line, list.end, body);
     if body.len() < n {
         return writer::bad_request(out, at);
     }
@@ -33,9 +29,19 @@ pub fn answer(
     if words.len() < k {
         return writer::bad_request(out, at);
     }
-    let s = digits::first(body, n);
-    let infos = digits::first_words(words, k);
-    match digits::big_endian(line, order) {
+    let big = digits::big_endian(line, order);
+    by_order(
+        big,
+        digits::first_words(words, k),
+        digits::first(body, n),
+        out,
+        at,
+    )
+}
+
+// The answer for arguments in either byte order.
+fn by_order(big: Flag, infos: &[u32], s: &[u8], out: &mut Out, at: usize) -> usize {
+    match big {
         Flag::Yes => shown(true, infos, s, out, at),
         Flag::No => shown(false, infos, s, out, at),
         Flag::Bad => writer::bad_request(out, at),

@@ -1,20 +1,11 @@
 // `consume BYTES`: passing a message with its storage header, dlt_consume_msg.
-use crate::digits;
 use crate::writer;
 use crate::writer::Out;
 use storage::ConsumeAns;
 use storage::OptCount;
 
-// The answer to a request whose kind ends at `kind_end`.
-pub fn answer(line: &[u8], kind_end: usize, body: &mut [u8], out: &mut Out, at: usize) -> usize {
-    let n = digits::only_bytes(line, kind_end, body);
-    if body.len() < n {
-        return writer::bad_request(out, at);
-    }
-    shown(digits::first(body, n), out, at)
-}
-
-fn shown(s: &[u8], out: &mut Out, at: usize) -> usize {
+// The answer to the bytes of a request.
+pub fn answer(s: &[u8], out: &mut Out, at: usize) -> usize {
     match storage::dlt_consume_msg(s, 0) {
         ConsumeAns::Done(got) => {
             let v = got.v;
@@ -28,8 +19,9 @@ fn shown(s: &[u8], out: &mut Out, at: usize) -> usize {
 
 // How many bytes the message had: `-` where there was none.
 fn count(c: OptCount, out: &mut Out, at: usize) -> usize {
+    let front = writer::literal(out, at, b" count=");
     match c {
-        OptCount::Present(n) => writer::labelled(out, at, b" count=", n),
-        OptCount::Absent => writer::literal(out, at, b" count=-"),
+        OptCount::Present(n) => writer::decimal(out, front, n),
+        OptCount::Absent => writer::byte(out, front, b'-'),
     }
 }

@@ -16,29 +16,32 @@ use wire::Range;
 pub fn payload(out: &mut Out, at: usize, s: &[u8], p: PayloadContent, end: usize) -> usize {
     match p {
         PayloadContent::Verbose(list) => {
-            let placed = span(out, at, b"V(", list.at, end);
+            let placed = span(out, at, b'V', list.at, end);
             every_argument(out, placed, s, list)
         }
-        PayloadContent::NonVerbose(id, rest) => {
-            let done = writer::labelled(out, at, b"N(", id as u64);
-            writer::range(out, done, b")", s, rest)
-        }
+        PayloadContent::NonVerbose(id, rest) => numbered(out, at, b'N', id as u64, s, rest),
         PayloadContent::ControlMsg(control, data) => {
-            let known = writer::labelled(out, at, b"C(", types::control_number(control));
-            writer::range(out, known, b")", s, data)
+            numbered(out, at, b'C', types::control_number(control), s, data)
         }
         PayloadContent::NetworkTrace(trace) => {
-            let begun = span(out, at, b"T(", trace.at, end);
+            let begun = span(out, at, b'T', trace.at, end);
             every_raw(out, begun, s, trace)
         }
     }
 }
 
+// A kind of payload with its number, and the bytes behind that: `N(ID)TEXT`.
+fn numbered(out: &mut Out, at: usize, letter: u8, n: u64, s: &[u8], rest: Range) -> usize {
+    let kind = writer::byte(out, at, letter);
+    let known = writer::marked(out, kind, b'(', n);
+    let done = writer::byte(out, known, b')');
+    writer::text(out, done, s, rest.start, rest.len)
+}
+
 // A kind of list, and where it stands: `V(FROM-TO)`.
-fn span(out: &mut Out, at: usize, front: &[u8], from: usize, to: usize) -> usize {
-    let begun = writer::labelled(out, at, front, from as u64);
-    let ended = writer::labelled(out, begun, b"-", to as u64);
-    writer::byte(out, ended, b')')
+fn span(out: &mut Out, at: usize, letter: u8, from: usize, to: usize) -> usize {
+    let kind = writer::byte(out, at, letter);
+    writer::pattern(out, kind, b"(#-#)", &[from as u64, to as u64])
 }
 
 // The cursor's next argument. A list that was read has no argument that cannot be read again: one would be its end.
@@ -105,6 +108,7 @@ fn every_raw(out: &mut Out, at: usize, s: &[u8], trace: RawCursor) -> usize {
 
 // A raw value, as `[TEXT]`.
 fn raw(out: &mut Out, at: usize, s: &[u8], place: Range) -> usize {
-    let shown = writer::range(out, at, b"[", s, place);
+    let begun = writer::byte(out, at, b'[');
+    let shown = writer::text(out, begun, s, place.start, place.len);
     writer::byte(out, shown, b']')
 }

@@ -22,26 +22,34 @@ pub enum Flag {
     Bad,
 }
 
+// The letter of a word that has one alone, else 0.
+fn only_letter(line: &[u8], f: Field) -> u8 {
+    let start = f.start;
+    if !has_up_to(line, f, 1) {
+        return 0;
+    }
+    if line.len() <= start {
+        return 0;
+    }
+    line[start]
+}
+
 // STORAGE: whether there is a storage header, 1 or 0.
 pub fn storage(line: &[u8], f: Field) -> Flag {
-    if fields::is(line, f, b"1") {
-        return Flag::Yes;
+    match only_letter(line, f) {
+        b'1' => Flag::Yes,
+        b'0' => Flag::No,
+        _ => Flag::Bad,
     }
-    if fields::is(line, f, b"0") {
-        return Flag::No;
-    }
-    Flag::Bad
 }
 
 // The byte order: whether it is big-endian, B, or little-endian, L.
 pub fn big_endian(line: &[u8], f: Field) -> Flag {
-    if fields::is(line, f, b"B") || fields::is(line, f, b"b") {
-        return Flag::Yes;
+    match only_letter(line, f) {
+        b'B' | b'b' => Flag::Yes,
+        b'L' | b'l' => Flag::No,
+        _ => Flag::Bad,
     }
-    if fields::is(line, f, b"L") || fields::is(line, f, b"l") {
-        return Flag::No;
-    }
-    Flag::Bad
 }
 
 // The worth of a hex digit, 16 where the character is none.
@@ -162,7 +170,7 @@ fn comma(line: &[u8], from: usize, end: usize) -> usize
 // The hex numbers that commas join in a field, or none for `-`, at the front of `words`. Answers how many, or more than `words` holds where
 // the field is no such list or has too many.
 pub fn hex_words(line: &[u8], f: Field, words: &mut [u32]) -> usize {
-    if fields::is(line, f, b"-") {
+    if only_letter(line, f) == b'-' {
         return 0;
     }
     let end = f.end;
@@ -216,7 +224,7 @@ fn hex_pairs(line: &[u8], start: usize, room: &mut [u8], n: usize) -> bool
 // The bytes that a field spells in hex, or none for `-`, at the front of `body`. Answers how many, or more than `body` holds where the field
 // spells no bytes or too many.
 pub fn hex_bytes(line: &[u8], f: Field, body: &mut [u8]) -> usize {
-    if fields::is(line, f, b"-") {
+    if only_letter(line, f) == b'-' {
         return 0;
     }
     let bad = body.len() + 1;
@@ -242,9 +250,9 @@ pub fn hex_bytes(line: &[u8], f: Field, body: &mut [u8]) -> usize {
     }
 }
 
-// The bytes of a request that has one field alone behind its kind. Answers like `hex_bytes`, also where there are more fields.
-pub fn only_bytes(line: &[u8], kind_end: usize, body: &mut [u8]) -> usize {
-    let bytes = fields::after(line, kind_end);
+// The bytes of a request's last field, which stands behind `end`. Answers like `hex_bytes`, also where it is not the last.
+pub fn last_bytes(line: &[u8], end: usize, body: &mut [u8]) -> usize {
+    let bytes = fields::after(line, end);
     if bytes.end != line.len() {
         return body.len() + 1;
     }
@@ -255,6 +263,14 @@ pub fn only_bytes(line: &[u8], kind_end: usize, body: &mut [u8]) -> usize {
 pub fn first<'a>(s: &'a [u8], n: usize) -> &'a [u8] {
     if n <= s.len() {
         return &s[..n];
+    }
+    s
+}
+
+// The `k` bytes behind the first `n`, or all behind those where there are fewer.
+pub fn behind<'a>(s: &'a [u8], n: usize, k: usize) -> &'a [u8] {
+    if n <= s.len() {
+        return first(&s[n..], k);
     }
     s
 }

@@ -110,14 +110,7 @@ fn most_of(limit: Limit) -> usize {
 }
 
 // The answer to a request whose kind ends at `kind_end`.
-pub fn answer(
-    line: &[u8],
-    kind_end: usize,
-    body: &mut [u8],
-    filter: &mut [u8],
-    out: &mut Out,
-    at: usize,
-) -> usize {
+pub fn answer(line: &[u8], kind_end: usize, body: &mut [u8], out: &mut Out, at: usize) -> usize {
     let numbers = front_of(line, kind_end);
     let chosen = fields::after(line, numbers.end);
     let bytes = fields::after(line, chosen.end);
@@ -126,15 +119,30 @@ pub fn answer(
     if body.len() < n {
         return writer::bad_request(out, at);
     }
-    let k = digits::hex_bytes(line, chosen, filter);
-    if filter.len() < k {
+    let k = digits::hex_bytes(line, chosen, &mut body[n..]);
+    if body.len() - n < k {
         return writer::bad_request(out, at);
     }
-    let s = digits::first(body, n);
-    let f = digits::first(filter, k);
     let asked = numbers.asked;
+    by_numbers(body, n, k, asked, limit, out, at)
+}
+
+// The answer by the numbers of a request. Its bytes are the first `n`, its filter's the `k` behind them.
+fn by_numbers(
+    body: &[u8],
+    n: usize,
+    k: usize,
+    asked: Asked,
+    limit: Limit,
+    out: &mut Out,
+    at: usize,
+) -> usize {
     match asked {
-        Asked::Good(request) => shown(s, f, request, limit, out, at),
+        Asked::Good(request) => {
+            let s = digits::first(body, n);
+            let f = digits::behind(body, n, k);
+            shown(s, f, request, limit, out, at)
+        }
         Asked::Bad => writer::bad_request(out, at),
     }
 }
@@ -183,30 +191,32 @@ fn taken(out: &mut Out, at: usize, limit: Limit, n: usize) -> usize {
     }
 }
 
-// The number, the state and the need.
-fn ending(out: &mut Out, at: usize, end: End, state: State) -> usize {
+// The number of an end.
+fn end_number(end: End) -> u64 {
     match end {
-        End::BadFilter => refused(out, at, b"1", state),
-        End::BadState => refused(out, at, b"5", state),
-        End::TooLong => refused(out, at, b"6", state),
-        End::Full => refused(out, at, b"7", state),
-        End::Paused => refused(out, at, b"8", state),
-        End::Waits(need) => {
-            let first = literal_state(out, at, b"0", state);
-            writer::labelled(out, first, b" need=", need as u64)
-        }
+        End::Waits(_) => 0,
+        End::BadFilter => 1,
+        End::BadState => 5,
+        End::TooLong => 6,
+        End::Full => 7,
+        End::Paused => 8,
     }
 }
 
-fn refused(out: &mut Out, at: usize, number: &[u8], state: State) -> usize {
-    let first = literal_state(out, at, number, state);
-    writer::literal(out, first, b" need=-")
+// The number, the state and the need.
+fn ending(out: &mut Out, at: usize, end: End, state: State) -> usize {
+    let numbers = [end_number(end), state.at as u64, state.used as u64];
+    let done = writer::pattern(out, at, b"# resume=# used=#", &numbers);
+    need(out, done, end)
 }
 
-fn literal_state(out: &mut Out, at: usize, number: &[u8], state: State) -> usize {
-    let first = writer::literal(out, at, number);
-    let resume = writer::labelled(out, first, b" resume=", state.at as u64);
-    writer::labelled(out, resume, b" used=", state.used as u64)
+// How many bytes are missing, or `-` where the call does not wait for any.
+fn need(out: &mut Out, at: usize, end: End) -> usize {
+    let front = writer::literal(out, at, b" need=");
+    match end {
+        End::Waits(n) => writer::decimal(out, front, n as u64),
+        _ => writer::byte(out, front, b'-'),
+    }
 }
 
 // The entries from `from` up to `to`.
@@ -223,25 +233,20 @@ fn entries(out: &mut Out, at: usize, table: &[u64], from: usize, to: usize) -> u
     done
 }
 
+// An entry: its start, how many bytes were skipped, its length and its kind.
 fn entry(out: &mut Out, at: usize, e: &[u64]) -> usize {
     if e.len() < 4 {
         return at;
     }
-    let start = writer::labelled(out, at, b" (", e[0]);
-    let skipped = writer::labelled(out, start, b" ", e[1]);
-    let length = writer::labelled(out, skipped, b" ", e[2]);
-    kind(out, length, e[3])
+    let done = writer::pattern(out, at, b" (# # # ", e);
+    kind(out, done, e[3])
 }
 
 fn kind(out: &mut Out, at: usize, kind: u64) -> usize {
-    if kind == 0 {
-        return writer::literal(out, at, b" item)");
+    match kind {
+        0 => writer::literal(out, at, b"item)"),
+        1 => writer::literal(out, at, b"filtered)"),
+        2 => writer::literal(out, at, b"hickup)"),
+        _ => writer::literal(out, at, b"unrecoverable)"),
     }
-    if kind == 1 {
-        return writer::literal(out, at, b" filtered)");
-    }
-    if kind == 2 {
-        return writer::literal(out, at, b" hickup)");
-    }
-    writer::literal(out, at, b" unrecoverable)")
 }

@@ -42,22 +42,6 @@ fn newline(block: &[u8], from: usize) -> usize
     i
 }
 
-// Answers a line, unless it is the end of one that was too long and has its answer.
-fn answer_line(
-    line: &[u8],
-    dropping: bool,
-    body: &mut [u8],
-    filter: &mut [u8],
-    words: &mut [u32],
-    out: &mut Out,
-    at: usize,
-) -> usize {
-    if dropping {
-        return at;
-    }
-    answer::line(line, body, filter, words, out, at)
-}
-
 // Answers each line of a block that ends in a newline, and writes the answers out. The first `seen` bytes have no newline. What stands from
 // `kept` on is the beginning of the next line.
 fn answer_lines(
@@ -65,7 +49,6 @@ fn answer_lines(
     seen: usize,
     skip: bool,
     body: &mut [u8],
-    filter: &mut [u8],
     words: &mut [u32],
     out: &mut Out,
 ) -> Feed {
@@ -74,7 +57,7 @@ fn answer_lines(
     let mut at = 0;
     let mut end = newline(block, seen);
     while end < block.len() {
-        at = answer_line(&block[start..end], dropping, body, filter, words, out, at);
+        at = answer::line(&block[start..end], dropping, body, words, out, at);
         dropping = false;
         start = end + 1;
         end = newline(block, start);
@@ -127,13 +110,7 @@ fn keep_rest(input: &mut [u8], end: usize, feed: Feed, out: &mut Out) -> Feed
 }
 
 // The end of the input: a last line without a newline is answered too.
-fn finish(
-    line: &[u8],
-    body: &mut [u8],
-    filter: &mut [u8],
-    words: &mut [u32],
-    out: &mut Out,
-) -> Feed {
+fn finish(line: &[u8], body: &mut [u8], words: &mut [u32], out: &mut Out) -> Feed {
     let end = Feed {
         kept: 0,
         dropping: false,
@@ -142,38 +119,25 @@ fn finish(
     if line.len() == 0 {
         return end;
     }
-    let at = answer::line(line, body, filter, words, out, 0);
+    let at = answer::line(line, false, body, words, out, 0);
     writer::flush(out, at);
     end
 }
 
 // One block: reads once, and answers the lines that are whole then.
-fn turn(
-    input: &mut [u8],
-    feed: Feed,
-    body: &mut [u8],
-    filter: &mut [u8],
-    words: &mut [u32],
-    out: &mut Out,
-) -> Feed {
+fn turn(input: &mut [u8], feed: Feed, body: &mut [u8], words: &mut [u32], out: &mut Out) -> Feed {
     let kept = feed.kept;
     let end = read_more(input, kept);
     if end <= kept {
-        return finish(&input[..end], body, filter, words, out);
+        return finish(&input[..end], body, words, out);
     }
-    let rest = answer_lines(&input[..end], kept, feed.dropping, body, filter, words, out);
+    let rest = answer_lines(&input[..end], kept, feed.dropping, body, words, out);
     keep_rest(input, end, rest, out)
 }
 
 // Answers every line of standard input. A proved loop has to end, and nothing says that an input does: so the loop counts its turns down,
 // from a number that no run uses up.
-pub fn serve(
-    input: &mut [u8],
-    body: &mut [u8],
-    filter: &mut [u8],
-    words: &mut [u32],
-    out: &mut Out,
-) {
+pub fn serve(input: &mut [u8], body: &mut [u8], words: &mut [u32], out: &mut Out) {
     let mut feed = Feed {
         kept: 0,
         dropping: false,
@@ -181,7 +145,7 @@ pub fn serve(
     };
     let mut turns = u64::MAX;
     while 0 < turns && !feed.ended {
-        feed = turn(input, feed, body, filter, words, out);
+        feed = turn(input, feed, body, words, out);
         turns -= 1;
     }
 }

@@ -7,7 +7,7 @@
 // - fields, digits: the words of a line, and the numbers and bytes in them.
 // - writer: text, numbers and bytes into a buffer that is written out whenever it is full.
 //
-// All memory is the five arrays of `main`: functions borrow them, and hand on numbers by value.
+// All memory is the four arrays of `main`: functions borrow them, and hand on numbers by value.
 ghost use mathlib.Core.Path.{_≡_};
 ghost use lib.ListN.{length};
 
@@ -38,7 +38,7 @@ fn block_room() -> [u8; 1048576]
     [0; 1048576]
 }
 
-// Room for the bytes of a line of 300,000 characters, and for those of its filter.
+// Room for the bytes that a line of 300,000 characters spells, its filter's among them.
 fn body_room() -> [u8; 150000]
     ensures { λ r. ⌜ 150000 ≡ length r ⌝ }
 {
@@ -55,8 +55,7 @@ fn words_room() -> [u32; 150000]
 fn main() {
     let mut input = block_room();
     let mut body = body_room();
-    let mut filter = body_room();
     let mut words = words_room();
     let mut out = io::large_buffer();
-    lines::serve(&mut input, &mut body, &mut filter, &mut words, &mut out);
+    lines::serve(&mut input, &mut body, &mut words, &mut out);
 }

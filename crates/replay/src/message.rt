@@ -37,16 +37,17 @@ fn stored_fields(out: &mut Out, at: usize, s: &[u8], stored: Stored) -> usize {
     let header = stored.header;
     let time = header.timestamp;
     let ecu = header.ecu_id;
-    let whole = writer::labelled(out, at, b" sh=", time.seconds as u64);
-    let part = writer::labelled(out, whole, b",", time.microseconds as u64);
-    let named = writer::range(out, part, b",.", s, ecu);
+    let numbers = [time.seconds as u64, time.microseconds as u64];
+    let timed = writer::pattern(out, at, b" sh=#,#,.", &numbers);
+    let named = writer::text(out, timed, s, ecu.start, ecu.len);
     writer::labelled(out, named, b",skip", stored.skipped as u64)
 }
 
-fn order(out: &mut Out, at: usize, e: Endianness) -> usize {
+// The byte order's letter.
+fn order(e: Endianness) -> u8 {
     match e {
-        Endianness::Little => writer::literal(out, at, b" end=L"),
-        Endianness::Big => writer::literal(out, at, b" end=B"),
+        Endianness::Little => b'L',
+        Endianness::Big => b'B',
     }
 }
 
@@ -65,10 +66,10 @@ fn standard_header(out: &mut Out, at: usize, s: &[u8], h: StandardHeader) -> usi
     let ecu = h.ecu_id;
     let session = h.session_id;
     let time = h.timestamp;
-    let versioned = writer::labelled(out, at, b" ver=", h.version as u64);
-    let ordered = order(out, versioned, endianness);
-    let counted = writer::labelled(out, ordered, b" ctr=", h.message_counter as u64);
-    let measured = writer::labelled(out, counted, b" plen=", h.payload_length as u64);
+    let versioned = writer::pattern(out, at, b" ver=# end=", &[h.version as u64]);
+    let ordered = writer::byte(out, versioned, order(endianness));
+    let numbers = [h.message_counter as u64, h.payload_length as u64];
+    let measured = writer::pattern(out, ordered, b" ctr=# plen=#", &numbers);
     let named = writer::maybe_range(out, measured, b" ecu=", s, ecu);
     let numbered = number(out, named, b" ses=", session);
     number(out, numbered, b" ts=", time)
@@ -86,11 +87,9 @@ fn extended_fields(out: &mut Out, at: usize, s: &[u8], e: ExtendedHeader) -> usi
     let its_type = e.message_type;
     let application = e.application_id;
     let context = e.context_id;
-    let verbose = types::flag_number(e.verbose);
-    let flagged = writer::labelled(out, at, b" ext=v", verbose);
-    let counted = writer::labelled(out, flagged, b",n", e.argument_count as u64);
-    let gap = writer::byte(out, counted, b',');
-    let typed = types::message_type(out, gap, its_type);
+    let numbers = [types::flag_number(e.verbose), e.argument_count as u64];
+    let counted = writer::pattern(out, at, b" ext=v#,n#,", &numbers);
+    let typed = types::message_type(out, counted, its_type);
     let owned = writer::range(out, typed, b",.", s, application);
     writer::range(out, owned, b",.", s, context)
 }

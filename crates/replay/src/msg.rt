@@ -10,31 +10,33 @@ use parse::MessageAns;
 use parse::ParsedMessage;
 
 // The answer to a request whose kind ends at `kind_end`.
-pub fn answer(
-    line: &[u8],
-    kind_end: usize,
-    body: &mut [u8],
-    filter: &mut [u8],
-    out: &mut Out,
-    at: usize,
-) -> usize {
+pub fn answer(line: &[u8], kind_end: usize, body: &mut [u8], out: &mut Out, at: usize) -> usize {
     let mode = fields::after(line, kind_end);
     let chosen = fields::after(line, mode.end);
-    let bytes = fields::after(line, chosen.end);
-    if bytes.end != line.len() {
-        return writer::bad_request(out, at);
-    }
-    let n = digits::hex_bytes(line, bytes, body);
+    let n = digits::last_bytes(line, chosen.end, body);
     if body.len() < n {
         return writer::bad_request(out, at);
     }
-    let k = digits::hex_bytes(line, chosen, filter);
-    if filter.len() < k {
+    let k = digits::hex_bytes(line, chosen, &mut body[n..]);
+    if body.len() - n < k {
         return writer::bad_request(out, at);
     }
+    let with_storage_header = digits::storage(line, mode);
+    by_mode(body, n, k, with_storage_header, out, at)
+}
+
+// The answer for a message with a storage header, or for one without. Its bytes are the first `n`, its filter's the `k` behind them.
+fn by_mode(
+    body: &[u8],
+    n: usize,
+    k: usize,
+    with_storage_header: Flag,
+    out: &mut Out,
+    at: usize,
+) -> usize {
     let s = digits::first(body, n);
-    let f = digits::first(filter, k);
-    match digits::storage(line, mode) {
+    let f = digits::behind(body, n, k);
+    match with_storage_header {
         Flag::Yes => shown(s, f, true, out, at),
         Flag::No => shown(s, f, false, out, at),
         Flag::Bad => writer::bad_request(out, at),
@@ -43,11 +45,11 @@ pub fn answer(
 
 fn shown(s: &[u8], f: &[u8], with_storage_header: bool, out: &mut Out, at: usize) -> usize {
     match parse::dlt_message(s, f, with_storage_header) {
-        MessageAns::BadFilter => writer::literal(out, at, b"1"),
+        MessageAns::BadFilter => writer::byte(out, at, b'1'),
         MessageAns::Done(got) => parsed(s, got, out, at),
         MessageAns::Need(need) => writer::need(out, at, need),
         MessageAns::Hickup(reason) => writer::hickup(out, at, reason),
-        MessageAns::Broken => writer::literal(out, at, b"4"),
+        MessageAns::Broken => writer::byte(out, at, b'4'),
     }
 }
 
@@ -61,8 +63,12 @@ fn parsed(s: &[u8], got: GotParsed, out: &mut Out, at: usize) -> usize {
             message::message(out, used, s, m, end)
         }
         ParsedMessage::FilteredOut(n) => {
-            let used = writer::labelled(out, at, b"0 filtered used=", end as u64);
-            writer::labelled(out, used, b" plen=", n as u64)
+            writer::pattern(
+                out,
+                at,
+                b"0 filtered used=# plen=#",
+                &[end as u64, n as u64],
+            )
         }
     }
 }

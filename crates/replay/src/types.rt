@@ -71,8 +71,7 @@ pub fn message_type(out: &mut Out, at: usize, t: MessageType) -> usize {
             writer::labelled(out, at, b"ctl:", control_number(control))
         }
         MessageType::Unknown(kind, n) => {
-            let done = writer::labelled(out, at, b"unk:", kind as u64);
-            writer::labelled(out, done, b":", n as u64)
+            writer::pattern(out, at, b"unk:#:#", &[kind as u64, n as u64])
         }
     }
 }
@@ -101,24 +100,28 @@ fn width_in_bits(width: FloatWidth) -> u64 {
 fn kind(out: &mut Out, at: usize, k: TypeInfoKind) -> usize {
     match k {
         TypeInfoKind::Bool => writer::literal(out, at, b"Bool"),
-        TypeInfoKind::Signed(length) => writer::labelled(out, at, b"S", length_in_bits(length)),
-        TypeInfoKind::SignedFixedPoint(width) => writer::labelled(
-            out,
-            at,
-            b"SX",
-            width_in_bits(width),
-        ),
-        TypeInfoKind::Unsigned(length) => writer::labelled(out, at, b"U", length_in_bits(length)),
-        TypeInfoKind::UnsignedFixedPoint(width) => writer::labelled(
-            out,
-            at,
-            b"UX",
-            width_in_bits(width),
-        ),
-        TypeInfoKind::Float(width) => writer::labelled(out, at, b"F", width_in_bits(width)),
         TypeInfoKind::StringType => writer::literal(out, at, b"Str"),
         TypeInfoKind::Raw => writer::literal(out, at, b"Raw"),
+        _ => number_kind(out, at, k),
     }
+}
+
+// The kind of a number: a letter, an X where it is a fixed point number, and how many bits it has. The kinds above are none.
+fn number_kind(out: &mut Out, at: usize, k: TypeInfoKind) -> usize {
+    match k {
+        TypeInfoKind::Signed(length) => writer::marked(out, at, b'S', length_in_bits(length)),
+        TypeInfoKind::Unsigned(length) => writer::marked(out, at, b'U', length_in_bits(length)),
+        TypeInfoKind::Float(width) => writer::marked(out, at, b'F', width_in_bits(width)),
+        TypeInfoKind::SignedFixedPoint(width) => fixed_point(out, at, b'S', width),
+        TypeInfoKind::UnsignedFixedPoint(width) => fixed_point(out, at, b'U', width),
+        _ => at,
+    }
+}
+
+// The kind of a fixed point number: `SX32`.
+fn fixed_point(out: &mut Out, at: usize, letter: u8, width: FloatWidth) -> usize {
+    let done = writer::byte(out, at, letter);
+    writer::marked(out, done, b'X', width_in_bits(width))
 }
 
 fn coding_number(coding: StringCoding) -> u64 {
@@ -136,10 +139,11 @@ pub fn flag_number(flag: bool) -> u64 {
 pub fn type_info(out: &mut Out, at: usize, t: TypeInfo) -> usize {
     let shown_kind = t.kind;
     let coding = t.coding;
-    let kind_done = kind(out, at, shown_kind);
-    let coding_done = writer::labelled(out, kind_done, b",", coding_number(coding));
-    let variable = flag_number(t.has_variable_info);
-    let variable_done = writer::labelled(out, coding_done, b",", variable);
-    let trace = flag_number(t.has_trace_info);
-    writer::labelled(out, variable_done, b",", trace)
+    let done = kind(out, at, shown_kind);
+    let numbers = [
+        coding_number(coding),
+        flag_number(t.has_variable_info),
+        flag_number(t.has_trace_info),
+    ];
+    writer::pattern(out, done, b",#,#,#", &numbers)
 }

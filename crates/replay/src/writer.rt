@@ -39,6 +39,32 @@ pub fn decimal(out: &mut Out, at: usize, n: u64) -> usize {
     literal(out, at, &spelled[..k])
 }
 
+// The number at a place, 0 where there is none.
+fn number_at(numbers: &[u64], place: usize) -> u64 {
+    if place < numbers.len() {
+        return numbers[place];
+    }
+    0
+}
+
+// A text, with the next of the numbers in the place of each `#`.
+pub fn pattern(out: &mut Out, at: usize, text: &[u8], numbers: &[u64]) -> usize {
+    let mut next = at;
+    let mut used = 0;
+    let mut i = 0;
+    while i < text.len() {
+        let c = text[i];
+        i += 1;
+        if c == b'#' {
+            next = decimal(out, next, number_at(numbers, used));
+            used += 1;
+            continue;
+        }
+        next = byte(out, next, c);
+    }
+    next
+}
+
 // How far a number is from 0.
 fn magnitude(n: i64) -> u64 {
     if n >= 0 {
@@ -56,16 +82,16 @@ pub fn signed(out: &mut Out, at: usize, n: i64) -> usize {
     decimal(out, next, magnitude(n))
 }
 
+// A character and a number in decimal.
+pub fn marked(out: &mut Out, at: usize, mark: u8, n: u64) -> usize {
+    let next = byte(out, at, mark);
+    decimal(out, next, n)
+}
+
 // A label and a number in decimal.
 pub fn labelled(out: &mut Out, at: usize, label: &[u8], n: u64) -> usize {
     let next = literal(out, at, label);
     decimal(out, next, n)
-}
-
-// A label and a number in decimal, with a `-` between where it is negative.
-pub fn labelled_signed(out: &mut Out, at: usize, label: &[u8], n: i64) -> usize {
-    let next = literal(out, at, label);
-    signed(out, next, n)
 }
 
 // The bits of a number, by two's complement.
@@ -114,8 +140,8 @@ pub fn hex_bytes(out: &mut Out, at: usize, s: &[u8], start: usize, len: usize) -
 // A part of the bytes as TEXT: in hex, and where it stands.
 pub fn text(out: &mut Out, at: usize, s: &[u8], start: usize, len: usize) -> usize {
     let shown = hex_bytes(out, at, s, start, len);
-    let placed = labelled(out, shown, b"@", start as u64);
-    labelled(out, placed, b"+", len as u64)
+    let placed = marked(out, shown, b'@', start as u64);
+    marked(out, placed, b'+', len as u64)
 }
 
 // A label and a TEXT.
@@ -128,7 +154,10 @@ pub fn range(out: &mut Out, at: usize, label: &[u8], s: &[u8], place: Range) -> 
 pub fn maybe_range(out: &mut Out, at: usize, label: &[u8], s: &[u8], place: OptRange) -> usize {
     let done = literal(out, at, label);
     match place {
-        OptRange::Present(found) => range(out, done, b".", s, found),
+        OptRange::Present(found) => {
+            let dot = byte(out, done, b'.');
+            text(out, dot, s, found.start, found.len)
+        }
         OptRange::Absent => byte(out, done, b'-'),
     }
 }

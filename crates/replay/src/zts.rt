@@ -9,12 +9,8 @@ use wire::RangeAns;
 // The answer to a request whose kind ends at `kind_end`.
 pub fn answer(line: &[u8], kind_end: usize, body: &mut [u8], out: &mut Out, at: usize) -> usize {
     let size = fields::after(line, kind_end);
-    let bytes = fields::after(line, size.end);
-    let n = digits::hex_bytes(line, bytes, body);
+    let n = digits::last_bytes(line, size.end, body);
     if body.len() < n {
-        return writer::bad_request(out, at);
-    }
-    if bytes.end != line.len() {
         return writer::bad_request(out, at);
     }
     match digits::decimal(line, size) {

@@ -7,10 +7,10 @@ use Rattle.replay.proofs.lines.answer_lines.Statement.{statement}
 use Rattle.replay.proofs.lines.answer_lines.Tie as tie
 
 abbrev Inv-loop : tie.InvT-loop
-Inv-loop block seen skip body₀ filter₀ words₀ out₀ start₀ dropping₀ at₀ end₀ body filter words out start dropping at end = (start ≤ end) × (length body ≡ length body₀) × (length filter ≡ length filter₀) × (length words ≡ length words₀)
+Inv-loop block seen skip body₀ words₀ out₀ start₀ dropping₀ at₀ end₀ body words out start dropping at end = (start ≤ end) × (length body ≡ length body₀) × (length words ≡ length words₀)
 
 abbrev μ-loop : tie.MeasureT-loop
-μ-loop block seen skip body₀ filter₀ words₀ out₀ start₀ dropping₀ at₀ end₀ body filter words out start dropping at end = length block - end
+μ-loop block seen skip body₀ words₀ out₀ start₀ dropping₀ at₀ end₀ body words out start dropping at end = length block - end
 
 pub answer-lines-spec : {M : Type 1} → statement M
 answer-lines-spec =
@@ -29,7 +29,6 @@ answer-lines-spec =
     (λ c. search needs)
     (λ c. search needs)
     (λ c κs. search needs)
-    (λ c. search needs)
     (λ c. search needs)
     (λ c. search needs)
     (λ c. search needs))
