@@ -1,19 +1,15 @@
 -- The message rule keeps the laws, with and without storage headers, under every filter; and document 01's two facts of it.
-use Prim.Native.Nat.{ℕ, _+_, _-_, _≤_, _<_}
-use native.Mathlib.Omega.{arith}
-use mathlib.Core.Path.{_≡_, refl, sym, ap, _∙_}
+use Prim.Native.Nat.{ℕ, _+_, _≤_}
+use mathlib.Core.Path.{_≡_}
 use mathlib.Core.Bool.{Bool, true, false}
 use mathlib.Core.List.{List, _++_}
 use lib.ListN.{length}
-use Rattle.wire.specs.Answer.{Ans, Parser}
-use Rattle.wire.specs.Answer.Ans.{done, need, hickup, broken}
-use Rattle.wire.specs.Parser.{_>>=_, ret, here, choose, lacking}
+use Rattle.wire.specs.Answer.Ans.{done}
+use Rattle.wire.specs.Parser.{ret, here, choose}
 use Rattle.wire.specs.Lawful.{Lawful, Stable, Honest}
-use Rattle.wire.specs.Number.{number}
 use Rattle.wire.specs.declared.Range.{Range}
 use Rattle.wire.proofs.Laws.{then-law, choose-law, here-law, stable, honest}
 use Rattle.wire.proofs.Rules.{laws}
-use Rattle.wire.proofs.Step.{then-done, then-need, fixed-need, here-is}
 use Rattle.headertype.specs.HeaderType.{overallLength}
 use Rattle.headertype.specs.declared.OptRange.{OptRange}
 use Rattle.headertype.specs.declared.StandardHeader.{StandardHeader}
@@ -25,12 +21,12 @@ use Rattle.storage.specs.Storage.{storage}
 use Rattle.storage.specs.declared.OptStored.{OptStored}
 use Rattle.storage.proofs.Laws.{storage-law}
 use Rattle.filter.specs.declared.Filter.{Filter}
-use Rattle.filtering.specs.FilteredOut.{filteredOut}
 use Rattle.filtering.specs.declared.OptExtended.{OptExtended}
 use Rattle.filtering.proofs.Stable.{IdsIn, filtered-same}
 use Rattle.payload.proofs.Laws.{payload-law}
-use Rattle.parse.specs.Message.{havingFrom, seen, maybeExtended, headersOf, finished, headers, routed, passed, item, body, message}
+use Rattle.parse.specs.Message.{seen, maybeExtended, headersOf, finished, headers, routed, passed, item, body, message}
 use Rattle.parse.specs.declared.Headers.{Headers}
+use Rattle.parse.proofs.Nothing.{headers-of-nothing}
 use Rattle.facts.proofs.At.{LawfulAt, lawful-at, at-lawful, then-at, seen-at, from-at}
 
 maybeExtended-law : (t : Bool) → Lawful (maybeExtended t)
@@ -66,18 +62,6 @@ module _ (f : List ℕ) (filter : Filter) (stored : OptStored) where
       then-at here _ s at (lawful-at here here-law s at l) (λ start b q k.
       then-at standard _ s b (lawful-at standard standard-law s b k) (λ h c r m.
       finished-at start h s c m (ecu-inside h c s b k r))))
-
--- of no bytes the headers need one: the type byte
-standard-of-nothing : (s : List ℕ) → standard s (length s) ≡ need 1
-unfolding standard number
-standard-of-nothing s =
-    let z : lacking 1 s (length s) ≡ 1 = omega arith in
-    then-need _ _ s (length s) (fixed-need 1 _ s (length s) (omega arith)) ∙ ap need z
-
-pub headers-of-nothing : (f : List ℕ) (filter : Filter) (stored : OptStored) (s : List ℕ) → headers f filter stored s (length s) ≡ need 1
-unfolding headers
-headers-of-nothing f filter stored s =
-    then-done here _ s (length s) (here-is s (length s)) ∙ then-need standard _ s (length s) (standard-of-nothing s)
 
 pub routed-law : (f : List ℕ) (filter : Filter) (t : Bool) → Lawful (routed f filter t)
 unfolding routed

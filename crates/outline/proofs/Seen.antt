@@ -17,7 +17,7 @@ use Rattle.filter.specs.declared.Filter.{Filter}
 use Rattle.storage.specs.Storage.{marked, storage}
 use Rattle.storage.specs.declared.OptStored.{OptStored}
 use Rattle.parse.specs.Message.{headers, routed}
-use Rattle.facts.proofs.Laws.{headers-of-nothing}
+use Rattle.parse.proofs.Nothing.{headers-of-nothing}
 use Rattle.outline.specs.There.{typeAt, lengthAt, headersAt}
 use Rattle.outline.specs.Outline.{tested, outlineFrom, outlineOf}
 use Rattle.outline.specs.declared.Outline.{Outline}

@@ -30,7 +30,7 @@ use Rattle.filter.specs.declared.Filter.{Filter}
 use Rattle.filtering.specs.declared.OptExtended.{OptExtended}
 use Rattle.parse.specs.Message.{havingFrom, seen, maybeExtended, headersOf, finished, headers, routed, body, message}
 use Rattle.parse.specs.declared.Headers.{Headers}
-use Rattle.facts.proofs.Laws.{headers-of-nothing}
+use Rattle.parse.proofs.Nothing.{headers-of-nothing}
 use Rattle.step.specs.Step.{skippedOf}
 
 -- behind the pattern: 16 bytes with it

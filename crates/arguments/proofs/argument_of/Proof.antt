@@ -9,8 +9,7 @@ use Rattle.arguments.proofs.argument_of.Tie as tie
 pub argument-of-spec : {M : Type 1} → statement M
 unfolding kinded
 argument-of-spec =
-    tie.close
-    (tie.spec
+    let closed = tie.spec
     (λ c. search needs)
     (λ c κs. search needs)
     (λ c. search needs)
@@ -36,4 +35,5 @@ argument-of-spec =
     (λ c. search arguments-reading depth 20)
     (λ c. search arguments-reading depth 20)
     (λ c. search arguments-reading depth 20)
-    (λ c. search arguments-reading depth 20))
+    (λ c. search arguments-reading depth 20)
+    in tie.close closed

@@ -6,6 +6,14 @@ use Rattle.arguments.specs.Argument.{typeInfo}
 use Rattle.arguments.proofs.dlt_type_info.Statement.{statement}
 use Rattle.arguments.proofs.dlt_type_info.Tie as tie
 
+returns : tie.Need-returns
+unfolding typeInfo
+returns c = search arguments-reading depth 20
+
+returns-3 : tie.Need-returns-3
+unfolding typeInfo
+returns-3 c = search arguments-reading depth 20
+
 pub dlt-type-info-spec : {M : Type 1} → statement M
 unfolding typeInfo
 dlt-type-info-spec =
@@ -14,9 +22,9 @@ dlt-type-info-spec =
     (λ c κs. search needs)
     (λ c. search needs)
     (λ c. search needs)
-    (λ c. search arguments-reading depth 20)
+    returns
     (λ c κs. search needs)
     (λ c. search needs)
     (λ c. search needs)
     (λ c. search arguments-reading depth 20)
-    (λ c. search arguments-reading depth 20))
+    returns-3)

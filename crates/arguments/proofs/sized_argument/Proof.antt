@@ -9,8 +9,7 @@ use Rattle.arguments.proofs.sized_argument.Tie as tie
 pub sized-argument-spec : {M : Type 1} → statement M
 unfolding sized
 sized-argument-spec =
-    tie.close
-    (tie.spec
+    let closed = tie.spec
     (λ c κs. search needs)
     (λ c. search needs)
     (λ c. search needs)
@@ -24,4 +23,5 @@ sized-argument-spec =
     (λ c. search needs)
     (λ c. search needs)
     (λ c. search arguments-reading depth 20)
-    (λ c. search arguments-reading depth 20))
+    (λ c. search arguments-reading depth 20)
+    in tie.close closed

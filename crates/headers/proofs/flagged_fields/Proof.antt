@@ -6,19 +6,10 @@ use Rattle.headers.specs.Standard.{flagged}
 use Rattle.headers.proofs.flagged_fields.Statement.{statement}
 use Rattle.headers.proofs.flagged_fields.Tie as tie
 
-returns-2 : tie.Need-returns-2
-unfolding flagged
-returns-2 c = search headers-reading depth 20
-
-returns-5 : tie.Need-returns-5
-unfolding flagged
-returns-5 c = search headers-reading depth 20
-
 pub flagged-fields-spec : {M : Type 1} → statement M
 unfolding flagged
 flagged-fields-spec =
-    tie.close
-    (tie.spec
+    let closed = tie.spec
     (λ c κs. search needs)
     (λ c. search needs)
     (λ c. search needs)
@@ -26,7 +17,7 @@ flagged-fields-spec =
     (λ c κs. search needs)
     (λ c. search needs)
     (λ c. search needs)
-    returns-2
+    (λ c. search headers-reading depth 20)
     (λ c κs. search needs)
     (λ c. search needs)
     (λ c. search needs)
@@ -34,4 +25,5 @@ flagged-fields-spec =
     (λ c κs. search needs)
     (λ c κs. search needs)
     (λ c. search headers-reading depth 20)
-    returns-5)
+    (λ c. search headers-reading depth 20)
+    in tie.close closed

@@ -6,6 +6,14 @@ use Rattle.names.specs.Names.{name}
 use Rattle.names.proofs.dlt_variable_name.Statement.{statement}
 use Rattle.names.proofs.dlt_variable_name.Tie as tie
 
+returns : tie.Need-returns
+unfolding name
+returns c = search names-reading depth 20
+
+returns-2 : tie.Need-returns-2
+unfolding name
+returns-2 c = search names-reading depth 20
+
 pub dlt-variable-name-spec : {M : Type 1} → statement M
 unfolding name
 dlt-variable-name-spec =
@@ -16,5 +24,5 @@ dlt-variable-name-spec =
     (λ c. search needs)
     (λ c κs. search needs)
     (λ c. search needs)
-    (λ c. search names-reading depth 20)
-    (λ c. search names-reading depth 20))
+    returns
+    returns-2)

@@ -9,8 +9,8 @@ use Rattle.names.proofs.dlt_variable_name_and_unit.Tie as tie
 pub dlt-variable-name-and-unit-spec : {M : Type 1} → statement M
 unfolding maybeNames
 dlt-variable-name-and-unit-spec =
-    tie.close
-    (tie.spec
+    let closed = tie.spec
     (λ c κs. search needs)
     (λ c. search names-reading depth 20)
-    (λ c. search names-reading depth 20))
+    (λ c. search names-reading depth 20)
+    in tie.close closed

@@ -6,14 +6,22 @@ use Rattle.names.specs.Names.{maybeName}
 use Rattle.names.proofs.maybe_variable_name.Statement.{statement}
 use Rattle.names.proofs.maybe_variable_name.Tie as tie
 
+returns : tie.Need-returns
+unfolding maybeName
+returns c = search names-reading depth 20
+
+returns-2 : tie.Need-returns-2
+unfolding maybeName
+returns-2 c = search names-reading depth 20
+
 pub maybe-variable-name-spec : {M : Type 1} → statement M
 unfolding maybeName
 maybe-variable-name-spec =
-    let closed = tie.spec
+    tie.close
+    (tie.spec
     (λ c κs. search needs)
     (λ c. search needs)
     (λ c. search needs)
-    (λ c. search names-reading depth 20)
-    (λ c. search names-reading depth 20)
-    (λ c. search names-reading depth 20)
-    in tie.close closed
+    returns
+    returns-2
+    (λ c. search names-reading depth 20))

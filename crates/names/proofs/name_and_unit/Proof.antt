@@ -9,8 +9,7 @@ use Rattle.names.proofs.name_and_unit.Tie as tie
 pub name-and-unit-spec : {M : Type 1} → statement M
 unfolding nameAndUnit
 name-and-unit-spec =
-    tie.close
-    (tie.spec
+    let closed = tie.spec
     (λ c κs. search needs)
     (λ c. search needs)
     (λ c. search needs)
@@ -20,4 +19,5 @@ name-and-unit-spec =
     (λ c. search needs)
     (λ c. search names-reading depth 20)
     (λ c κs. search needs)
-    (λ c. search names-reading depth 20))
+    (λ c. search names-reading depth 20)
+    in tie.close closed

@@ -9,8 +9,7 @@ use Rattle.signals.proofs.content_of.Tie as tie
 pub content-of-spec : {M : Type 1} → statement M
 unfolding content
 content-of-spec =
-    tie.close
-    (tie.spec
+    let closed = tie.spec
     (λ c. search needs)
     (λ c κs. search needs)
     (λ c. search needs)
@@ -34,4 +33,5 @@ content-of-spec =
     (λ c. search contents depth 20)
     (λ c. search contents depth 20)
     (λ c. search contents depth 20)
-    (λ c. search contents depth 20))
+    (λ c. search contents depth 20)
+    in tie.close closed

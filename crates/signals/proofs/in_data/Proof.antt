@@ -9,12 +9,12 @@ use Rattle.signals.proofs.in_data.Tie as tie
 pub in-data-spec : {M : Type 1} → statement M
 unfolding inData
 in-data-spec =
-    tie.close
-    (tie.spec
+    let closed = tie.spec
     (λ c κs. search needs)
     (λ c. search needs)
     (λ c. search needs)
     (λ c. search contents depth 20)
     (λ c. search needs)
     (λ c. search contents depth 20)
-    (λ c. search contents depth 20))
+    (λ c. search contents depth 20)
+    in tie.close closed

@@ -7,8 +7,7 @@ use Rattle.signals.proofs.signal_at.Tie as tie
 
 pub signal-at-spec : {M : Type 1} → statement M
 signal-at-spec =
-    tie.close
-    (tie.spec
+    let closed = tie.spec
     (λ c κs. search needs)
     (λ c. search needs)
     (λ c κs. search needs)
@@ -19,4 +18,5 @@ signal-at-spec =
     (λ c. search one-signal depth 20)
     (λ c. search one-signal depth 20)
     (λ c. search one-signal depth 20)
-    (λ c. search one-signal depth 20))
+    (λ c. search one-signal depth 20)
+    in tie.close closed

@@ -7,8 +7,7 @@ use Rattle.values.proofs.dlt_fint.Tie as tie
 
 pub dlt-fint-spec : {M : Type 1} → statement M
 dlt-fint-spec =
-    tie.close
-    (tie.spec
+    let closed = tie.spec
     (λ c. search needs)
     (λ c κs. search needs)
     (λ c. search needs)
@@ -22,4 +21,5 @@ dlt-fint-spec =
     (λ c. search floats depth 20)
     (λ c. search floats depth 20)
     (λ c. search floats depth 20)
-    (λ c. search floats depth 20))
+    (λ c. search floats depth 20)
+    in tie.close closed

@@ -7,6 +7,14 @@ use Rattle.wire.specs.Number.{numeric}
 use Rattle.values.proofs.dlt_uint.Statement.{statement}
 use Rattle.values.proofs.dlt_uint.Tie as tie
 
+returns-3 : tie.Need-returns-3
+unfolding uint unsignedOf numeric
+returns-3 c = search uints depth 20
+
+returns-7 : tie.Need-returns-7
+unfolding uint unsignedOf numeric
+returns-7 c = search uints depth 20
+
 pub dlt-uint-spec : {M : Type 1} → statement M
 unfolding uint unsignedOf numeric
 dlt-uint-spec =
@@ -32,10 +40,10 @@ dlt-uint-spec =
     (λ c κs. search needs)
     (λ c. search uints depth 20)
     (λ c. search uints depth 20)
+    returns-3
     (λ c. search uints depth 20)
     (λ c. search uints depth 20)
     (λ c. search uints depth 20)
-    (λ c. search uints depth 20)
-    (λ c. search uints depth 20)
+    returns-7
     (λ c. search uints depth 20)
     (λ c. search uints depth 20))

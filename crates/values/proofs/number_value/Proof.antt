@@ -6,17 +6,25 @@ use Rattle.values.specs.Value.{value}
 use Rattle.values.proofs.number_value.Statement.{statement}
 use Rattle.values.proofs.number_value.Tie as tie
 
+returns : tie.Need-returns
+unfolding value
+returns c = search values-reading depth 20
+
+returns-2 : tie.Need-returns-2
+unfolding value
+returns-2 c = search values-reading depth 20
+
 pub number-value-spec : {M : Type 1} → statement M
 unfolding value
 number-value-spec =
-    let closed = tie.spec
+    tie.close
+    (tie.spec
     (λ c. search needs)
     (λ c κs. search needs)
     (λ c. search needs)
     (λ c κs. search needs)
     (λ c. search needs)
     (λ c κs. search needs)
-    (λ c. search values-reading depth 20)
-    (λ c. search values-reading depth 20)
-    (λ c. search values-reading depth 20)
-    in tie.close closed
+    returns
+    returns-2
+    (λ c. search values-reading depth 20))
