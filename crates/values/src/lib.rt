@@ -55,12 +55,12 @@ fn wide_uint(s: &[u8], at: usize, big: bool) -> ValueAns
     ensures { λ r. ⌜ valueAns r ≡ uint big TypeLength.BitLength128 (now (s .entry)) at ⌝ }
 {
     match wire::parse_u128(s, at, big) {
-        U128Ans::Done(num) => ValueAns::Done(GotValue {
+        U128Ans::Done(whole) => ValueAns::Done(GotValue {
             v: Value::U128 {
-                high: num.v.high,
-                low: num.v.low,
+                high: whole.v.high,
+                low: whole.v.low,
             },
-            next: num.next,
+            next: whole.next,
         }),
         U128Ans::Need(no_num) => ValueAns::Need(no_num),
     }

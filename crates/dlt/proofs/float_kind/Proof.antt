@@ -9,10 +9,10 @@ use Rattle.dlt.proofs.float_kind.Tie as tie
 pub float-kind-spec : {M : Type 1} → statement M
 unfolding floatOf
 float-kind-spec =
-    tie.close
-    (tie.spec
+    let closed = tie.spec
     (λ c κs. search needs)
     (λ c. search needs)
     (λ c. search needs)
     (λ c. search dlt-reading depth 20)
-    (λ c. search dlt-reading depth 20))
+    (λ c. search dlt-reading depth 20)
+    in tie.close closed

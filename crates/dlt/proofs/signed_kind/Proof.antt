@@ -9,8 +9,7 @@ use Rattle.dlt.proofs.signed_kind.Tie as tie
 pub signed-kind-spec : {M : Type 1} → statement M
 unfolding signedOf
 signed-kind-spec =
-    tie.close
-    (tie.spec
+    let closed = tie.spec
     (λ c κs. search needs)
     (λ c. search needs)
     (λ c. search needs)
@@ -20,4 +19,5 @@ signed-kind-spec =
     (λ c. search needs)
     (λ c. search needs)
     (λ c. search dlt-reading depth 20)
-    (λ c. search dlt-reading depth 20))
+    (λ c. search dlt-reading depth 20)
+    in tie.close closed
