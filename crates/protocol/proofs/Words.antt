@@ -45,80 +45,100 @@ fields-of : (w : ℕ)
     → fieldsOf w ≡ built (w / 16 % 128) (w % 16) (flag 4096 w) (flag 8192 w) (flag 16384 w) (flag 2048 w) (w / 32768 % 8) (w / 262144)
 fields-of w = rw (bit4 w, bit5 w, bit6 w, bit7 w, bit8 w, bit9 w, bit10 w)
 
--- ---- the three sets without the coding and the reserved bits, and the meaning: a is whether the crate accepts the word, o its kind
-sharedSet : Bool → Word → Bool
-sharedSet a i = same (both a (typed i)) (sixOfBoth i)
+-- ---- a test of a word i: a is whether the crate accepts it, o its kind
+abbrev Test : Type 0
+Test = Bool → Word → OptKind → Bool
 
-crateSet : Bool → Word → Bool
-crateSet a i = same (both a (no (typed i))) (both a (looseType i))
+abbrev each : (Bool → Bool) → Bool
+each q = both (q true) (q false)
 
-protocolSet : Bool → Word → Bool
-protocolSet a i = same (both (typed i) (no a)) (both (typed i) (unread i))
+each-at : (q : Bool → Bool) → each q ≡ true → (b : Bool) → q b ≡ true
+each-at q e true = both-left (q true) (q false) e
+each-at q e false = both-right (q true) (q false) e
+
+module _ (p : Test) (v : Bool) (c u : ℕ) where
+  abbrev tried-at : Bool → Bool → Bool → ℕ → ℕ → Bool
+  tried-at f t s k l = p (known (kindBy k l f)) (built k l f t s v c u) (kindBy k l f)
+
+  abbrev tried-by : Bool → Bool → Bool → Bool
+  tried-by f t s = every (λ k. every (tried-at f t s k) 16) 128
+
+  -- tried at all words with the rest v, c and u
+  abbrev tried : Bool
+  tried = each (λ f. each (λ t. each (tried-by f t)))
+
+  by-kind : tried ≡ true → (f t s : Bool) (k l : ℕ) → k < 128 → l < 16 → tried-at f t s k l ≡ true
+  by-kind e f t s =
+      every-two (tried-at f t s) 128 16
+      (each-at (tried-by f t) (each-at (λ t. each (tried-by f t)) (each-at (λ f. each (λ t. each (tried-by f t))) e f) t) s)
+
+-- a test that every rest passes holds of every word
+of-word : (p : Test) → ((v : Bool) (c u : ℕ) → tried p v c u ≡ true) → (w : ℕ) → p (known (kindOf w)) (fieldsOf w) (kindOf w) ≡ true
+of-word p e w =
+    let v = flag 2048 w in
+    let c = w / 32768 % 8 in
+    let u = w / 262144 in
+    subst (λ (i : Word). p (known (kindOf w)) i (kindOf w) ≡ true) (sym (fields-of w))
+    (by-kind p v c u (e v c u) (flag 4096 w) (flag 8192 w) (flag 16384 w) (w / 16 % 128) (w % 16) (omega arith) (omega arith))
+
+-- ---- the three sets without the coding and the reserved bits, and the meaning
+sharedSet : Test
+sharedSet a i o = same (both a (typed i)) (sixOfBoth i)
+
+crateSet : Test
+crateSet a i o = same (both a (no (typed i))) (both a (looseType i))
+
+protocolSet : Test
+protocolSet a i o = same (both (typed i) (no a)) (both (typed i) (unread i))
 
 kindMeans : Word → OptKind → Bool
 kindMeans i (OptKind.Present k) = both (eqb (kindType k) (typeOf i)) (both (eqb (kindWidth k) (widthOf i)) (same (kindFixed k) (i .FIXP)))
 kindMeans i OptKind.Absent = true
 
-meant : Word → OptKind → Bool
-meant i o = pick (sixOfBoth i) (kindMeans i o) true
+meant : Test
+meant a i o = pick (sixOfBoth i) (kindMeans i o) true
 
-tried : Bool → Word → OptKind → Bool
-tried a i o = both (sharedSet a i) (both (crateSet a i) (both (protocolSet a i) (meant i o)))
+module _ (v : Bool) (c u : ℕ) where
+  shared-tried : tried sharedSet v c u ≡ true
+  unfolding sharedSet kindBy signedOf unsignedOf floatOf typeLengthOf floatWidthOf
+  shared-tried = refl
 
-abbrev tried-at : Bool → Bool → Bool → ℕ → ℕ → Bool
-tried-at f t s k l = tried (known (kindBy k l f)) (built k l f t s false 0 0) (kindBy k l f)
+  crate-tried : tried crateSet v c u ≡ true
+  unfolding crateSet kindBy signedOf unsignedOf floatOf typeLengthOf floatWidthOf
+  crate-tried = refl
 
-by-kind : (f t s : Bool) (k l : ℕ) → k < 128 → l < 16 → tried-at f t s k l ≡ true
-unfolding tried sharedSet crateSet protocolSet meant kindMeans kindBy signedOf unsignedOf floatOf typeLengthOf floatWidthOf
-by-kind true true true k l hk hl = every-two (tried-at true true true) 128 16 refl k l hk hl
-by-kind true true false k l hk hl = every-two (tried-at true true false) 128 16 refl k l hk hl
-by-kind true false true k l hk hl = every-two (tried-at true false true) 128 16 refl k l hk hl
-by-kind true false false k l hk hl = every-two (tried-at true false false) 128 16 refl k l hk hl
-by-kind false true true k l hk hl = every-two (tried-at false true true) 128 16 refl k l hk hl
-by-kind false true false k l hk hl = every-two (tried-at false true false) 128 16 refl k l hk hl
-by-kind false false true k l hk hl = every-two (tried-at false false true) 128 16 refl k l hk hl
-by-kind false false false k l hk hl = every-two (tried-at false false false) 128 16 refl k l hk hl
+  protocol-tried : tried protocolSet v c u ≡ true
+  unfolding protocolSet kindBy signedOf unsignedOf floatOf typeLengthOf floatWidthOf
+  protocol-tried = refl
 
--- the rest of a word plays no part
-rest-apart : (a : Bool) (o : OptKind) (k l : ℕ) (f t s v : Bool) (c u : ℕ) → tried a (built k l f t s false 0 0) o ≡ true → tried a (built k l f t s v c u) o ≡ true
-unfolding tried sharedSet crateSet protocolSet meant kindMeans
-rest-apart a (OptKind.Present kind) k l f t s v c u e = e
-rest-apart a OptKind.Absent k l f t s v c u e = e
-
-all-tried : (w : ℕ) → tried (known (kindOf w)) (fieldsOf w) (kindOf w) ≡ true
-all-tried w =
-    subst (λ (i : Word). tried (known (kindOf w)) i (kindOf w) ≡ true) (sym (fields-of w))
-    (rest-apart (known (kindOf w)) (kindOf w) (w / 16 % 128) (w % 16) (flag 4096 w) (flag 8192 w) (flag 16384 w) (flag 2048 w) (w / 32768 % 8) (w / 262144)
-    (by-kind (flag 4096 w) (flag 8192 w) (flag 16384 w) (w / 16 % 128) (w % 16) (omega arith) (omega arith)))
+  meant-tried : tried meant v c u ≡ true
+  unfolding meant kindMeans kindBy signedOf unsignedOf floatOf typeLengthOf floatWidthOf
+  meant-tried = refl
 
 picked : (t a : Bool) → pick t a true ≡ true → t ≡ true → a ≡ true
 picked true a e q = e
 picked false a e q = let z : _≡_ {A = ℕ} 0 1 = cc in absurd (omega arith)
 
--- ---- what the test shows, of any word
-module _ (a : Bool) (i : Word) (o : OptKind) (e : tried a i o ≡ true) where
-  shared-is : both a (typed i) ≡ sixOfBoth i
-  unfolding tried sharedSet
-  shared-is = same-is (both a (typed i)) (sixOfBoth i) (both-left (sharedSet a i) (both (crateSet a i) (both (protocolSet a i) (meant i o))) e)
+-- ---- what the tests show, of any word
+module _ (w : ℕ) where
+  abbrev answer : Bool
+  answer = known (kindOf w)
 
-  after-shared : both (crateSet a i) (both (protocolSet a i) (meant i o)) ≡ true
-  unfolding tried
-  after-shared = both-right (sharedSet a i) (both (crateSet a i) (both (protocolSet a i) (meant i o))) e
+  shared-is : both answer (typed (fieldsOf w)) ≡ sixOfBoth (fieldsOf w)
+  unfolding sharedSet
+  shared-is = same-is _ _ (of-word sharedSet shared-tried w)
 
-  crate-is : both a (no (typed i)) ≡ both a (looseType i)
+  crate-is : both answer (no (typed (fieldsOf w))) ≡ both answer (looseType (fieldsOf w))
   unfolding crateSet
-  crate-is = same-is (both a (no (typed i))) (both a (looseType i)) (both-left (crateSet a i) (both (protocolSet a i) (meant i o)) after-shared)
+  crate-is = same-is _ _ (of-word crateSet crate-tried w)
 
-  after-crate : both (protocolSet a i) (meant i o) ≡ true
-  after-crate = both-right (crateSet a i) (both (protocolSet a i) (meant i o)) after-shared
-
-  protocol-is : both (typed i) (no a) ≡ both (typed i) (unread i)
+  protocol-is : both (typed (fieldsOf w)) (no answer) ≡ both (typed (fieldsOf w)) (unread (fieldsOf w))
   unfolding protocolSet
-  protocol-is = same-is (both (typed i) (no a)) (both (typed i) (unread i)) (both-left (protocolSet a i) (meant i o) after-crate)
+  protocol-is = same-is _ _ (of-word protocolSet protocol-tried w)
 
-  meant-is : sixOfBoth i ≡ true → kindMeans i o ≡ true
+  meant-is : sixOfBoth (fieldsOf w) ≡ true → kindMeans (fieldsOf w) (kindOf w) ≡ true
   unfolding meant
-  meant-is q = picked (sixOfBoth i) (kindMeans i o) (both-right (protocolSet a i) (meant i o) after-crate) q
+  meant-is = picked _ _ (of-word meant meant-tried w)
 
 -- ---- the coding and the reserved bits beside them, as one bool
 tidy-both : (a h b t : Bool) → both a h ≡ b → both a (both h t) ≡ both b t
@@ -141,27 +161,24 @@ module _ (w : ℕ) where
   unfolding typeInfoOf
   is-known = decoded-known w (kindOf w)
 
-  abbrev answer : Bool
-  answer = known (kindOf w)
-
   -- the words of both
   pub in-both : both (accepted (typeInfoOf w)) (has (fieldsOf w)) ≡ bothHave w
   in-both =
       ap (λ (a : Bool). both a (has (fieldsOf w))) is-known
-      ∙ tidy-both answer (typed (fieldsOf w)) (sixOfBoth (fieldsOf w)) (tidy (fieldsOf w)) (shared-is answer (fieldsOf w) (kindOf w) (all-tried w))
+      ∙ tidy-both (answer w) (typed (fieldsOf w)) (sixOfBoth (fieldsOf w)) (tidy (fieldsOf w)) (shared-is w)
 
   -- the words of the crate alone
   pub crate-alone : both (accepted (typeInfoOf w)) (no (has (fieldsOf w))) ≡ crateAlone w
   crate-alone =
       ap (λ (a : Bool). both a (no (has (fieldsOf w)))) is-known
-      ∙ tidy-loose answer (typed (fieldsOf w)) (looseType (fieldsOf w)) (tidy (fieldsOf w)) (crate-is answer (fieldsOf w) (kindOf w) (all-tried w))
+      ∙ tidy-loose (answer w) (typed (fieldsOf w)) (looseType (fieldsOf w)) (tidy (fieldsOf w)) (crate-is w)
       ∙ ap (λ (a : Bool). both a (loose (fieldsOf w))) (sym is-known ∙ exactly w)
 
   -- the words of the protocol alone
   pub protocol-alone : both (has (fieldsOf w)) (no (accepted (typeInfoOf w))) ≡ protocolAlone w
   protocol-alone =
       ap (λ (a : Bool). both (has (fieldsOf w)) (no a)) is-known
-      ∙ tidy-unread answer (typed (fieldsOf w)) (unread (fieldsOf w)) (tidy (fieldsOf w)) (protocol-is answer (fieldsOf w) (kindOf w) (all-tried w))
+      ∙ tidy-unread (answer w) (typed (fieldsOf w)) (unread (fieldsOf w)) (tidy (fieldsOf w)) (protocol-is w)
 
 -- ---- a word of both has one meaning
 abbrev toldOf : Meaning → Decoded → Meaning
@@ -187,4 +204,4 @@ pub one-meaning : (w : ℕ) (i : TypeInfo) → typeInfoOf w ≡ Decoded.Accepted
 unfolding typeInfoOf
 one-meaning w i e b =
     ap (toldOf (meaningOf (fieldsOf w))) (sym e)
-    ∙ told-kind w (kindOf w) (meant-is (known (kindOf w)) (fieldsOf w) (kindOf w) (all-tried w) (both-left (sixOfBoth (fieldsOf w)) (tidy (fieldsOf w)) b))
+    ∙ told-kind w (kindOf w) (meant-is w (both-left (sixOfBoth (fieldsOf w)) (tidy (fieldsOf w)) b))
