@@ -20,6 +20,16 @@ Inv-loop s at count big pos₀ i₀ pos i = (i ≤ count) × (arguments big coun
 abbrev μ-loop : tie.MeasureT-loop
 μ-loop s at count big pos₀ i₀ pos i = count - i
 
+loop-holds : tie.Need-loop-holds Inv-loop μ-loop
+unfolding arguments
+loop-holds c = (omega arith, rw sub-zero)
+
+loop-again : tie.Need-loop-again Inv-loop μ-loop
+loop-again c =
+    let c1 = c .before in
+    let l = c1 .before .before .before .before .loop in
+    (omega arith, l .inv .1 ∙ times-next _ _ _ _ (l .i) (c1 .before .before .before .loop-test .taken) (was-done _ _ (told skimAns (c1 .before .before .skim-argument .ensures) (c1 .next .given .1)) .1))
+
 pub pass-arguments-spec : {M : Type 1} → statement M
 unfolding arguments
 pass-arguments-spec =
@@ -27,8 +37,7 @@ pass-arguments-spec =
     (tie.spec
     Inv-loop
     μ-loop
-    -- loop-holds
-    (λ c. (omega arith, rw sub-zero))
+    loop-holds
     (λ c κs. search needs)
     (λ c. search needs)
     (λ c. search needs)
@@ -45,10 +54,6 @@ pass-arguments-spec =
     sym (l .inv .1 ∙ times-hickup _ _ _ _ (l .i) (c1 .before .before .before .loop-test .taken) (was-hickup _ _ (told skimAns (c1 .before .before .skim-argument .ensures) (c1 .bad-item .given .1)))))
     (λ c. search needs)
     (λ c. search needs)
-    -- loop-again
-    (λ c.
-    let c1 = c .before in
-    let l = c1 .before .before .before .before .loop in
-    (omega arith, l .inv .1 ∙ times-next _ _ _ _ (l .i) (c1 .before .before .before .loop-test .taken) (was-done _ _ (told skimAns (c1 .before .before .skim-argument .ensures) (c1 .next .given .1)) .1)))
+    loop-again
     -- returns-3
     (λ c. sym (c .before .loop .inv .1 ∙ times-none _ _ _ _ (c .before .loop .i) (c .loop-test .left))))

@@ -6,6 +6,14 @@ use Rattle.cursor.specs.Cursor.{turn}
 use Rattle.cursor.proofs.Cursor.next.Statement.{statement}
 use Rattle.cursor.proofs.Cursor.next.Tie as tie
 
+returns : tie.Need-returns
+unfolding turn
+returns c = search arguments-reading depth 20
+
+returns-3 : tie.Need-returns-3
+unfolding turn
+returns-3 c = search arguments-reading depth 20
+
 pub next-spec : {M : Type 1} → statement M
 unfolding turn
 next-spec =
@@ -14,8 +22,8 @@ next-spec =
     (λ c κs. search needs)
     (λ c. search needs)
     (λ c. search needs)
-    (λ c. search arguments-reading depth 20)
+    returns
     (λ c. search needs)
     (λ c. search arguments-reading depth 20)
-    (λ c. search arguments-reading depth 20)
+    returns-3
     (λ c. search arguments-reading depth 20))
