@@ -1,4 +1,3 @@
 -- The crate's own lemmas. Assumes nothing.
 pub mod Counted
-pub mod Magnitude
 pub mod Long

@@ -1,5 +1,5 @@
 // `args L|B WORDS BYTES`: arguments from signal data, construct_arguments.
-use crate::argument;
+use crate::contents;
 use crate::digits;
 use crate::digits::Flag;
 use crate::fields;
@@ -81,7 +81,7 @@ fn every_signal(out: &mut Out, at: usize, words: &[u32], s: &[u8], big: bool) ->
             SignalTurn::Item(item) => {
                 let one = item.argument;
                 let behind = item.rest;
-                done = argument::argument(out, done, s, one);
+                done = contents::argument(out, done, s, one);
                 rest = behind;
             }
             SignalTurn::End => {

@@ -1,6 +1,5 @@
-// A payload as answers show it: its kind, and what it holds.
-use crate::argument;
-use crate::types;
+// A payload as answers show it: its kind, and what it holds; and an argument.
+use crate::pattern;
 use crate::writer;
 use crate::writer::Out;
 use cursor::Cursor;
@@ -9,20 +8,26 @@ use cursor::RawTurn;
 use cursor::RawTurnAns;
 use cursor::Turn;
 use cursor::TurnAns;
+use dlt::Argument;
 use payload::PayloadContent;
 use wire::Range;
 
-// The payload of a message that was read from `s` and ends at `end`.
-pub fn payload(out: &mut Out, at: usize, s: &[u8], p: PayloadContent, end: usize) -> usize {
+// The payload of a message that was read from `s` and ends at `end`, and whose numbers are `m`.
+pub fn payload(
+    out: &mut Out,
+    at: usize,
+    s: &[u8],
+    p: PayloadContent,
+    m: &[u64],
+    end: usize,
+) -> usize {
     match p {
         PayloadContent::Verbose(list) => {
             let placed = span(out, at, b'V', list.at, end);
             every_argument(out, placed, s, list)
         }
-        PayloadContent::NonVerbose(id, rest) => numbered(out, at, b'N', id as u64, s, rest),
-        PayloadContent::ControlMsg(control, data) => {
-            numbered(out, at, b'C', types::control_number(control), s, data)
-        }
+        PayloadContent::NonVerbose(_, _) => pattern::fill(out, at, b"N(#)@", m, 29, s),
+        PayloadContent::ControlMsg(_, _) => pattern::fill(out, at, b"C(#)@", m, 29, s),
         PayloadContent::NetworkTrace(trace) => {
             let begun = span(out, at, b'T', trace.at, end);
             every_raw(out, begun, s, trace)
@@ -30,18 +35,26 @@ pub fn payload(out: &mut Out, at: usize, s: &[u8], p: PayloadContent, end: usize
     }
 }
 
-// A kind of payload with its number, and the bytes behind that: `N(ID)TEXT`.
-fn numbered(out: &mut Out, at: usize, letter: u8, n: u64, s: &[u8], rest: Range) -> usize {
-    let kind = writer::byte(out, at, letter);
-    let known = writer::marked(out, kind, b'(', n);
-    let done = writer::byte(out, known, b')');
-    writer::text(out, done, s, rest.start, rest.len)
-}
-
 // A kind of list, and where it stands: `V(FROM-TO)`.
 fn span(out: &mut Out, at: usize, letter: u8, from: usize, to: usize) -> usize {
     let kind = writer::byte(out, at, letter);
-    writer::pattern(out, kind, b"(#-#)", &[from as u64, to as u64])
+    let begun = writer::marked(out, kind, b'(', from as u64);
+    let ended = writer::marked(out, begun, b'-', to as u64);
+    writer::byte(out, ended, b')')
+}
+
+// `[FROM-TO KIND,CODING,VARINFO,TRACEINFO name=.TEXT unit=.TEXT fp=QQQQQQQQ,i32:N VALUE]`, of an argument that was read from `s`.
+pub fn argument(out: &mut Out, at: usize, s: &[u8], a: Argument) -> usize {
+    let mut numbers = [0u64; 23];
+    numbers::put_argument(&mut numbers, 0, 0, false, a);
+    pattern::fill(
+        out,
+        at,
+        b"[#-# $,#,#,# name=? unit=? fp=^ *]",
+        &numbers,
+        3,
+        s,
+    )
 }
 
 // The cursor's next argument. A list that was read has no argument that cannot be read again: one would be its end.
@@ -63,7 +76,7 @@ fn every_argument(out: &mut Out, at: usize, s: &[u8], list: Cursor) -> usize {
             Turn::Item(item) => {
                 let one = item.argument;
                 let behind = item.rest;
-                done = argument::argument(out, done, s, one);
+                done = argument(out, done, s, one);
                 rest = behind;
             }
             Turn::End => {

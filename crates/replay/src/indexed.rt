@@ -5,6 +5,7 @@ ghost use lib.ListN.{length};
 use crate::digits;
 use crate::digits::Number;
 use crate::fields;
+use crate::pattern;
 use crate::writer;
 use crate::writer::Out;
 use index::End;
@@ -203,20 +204,31 @@ fn end_number(end: End) -> u64 {
     }
 }
 
-// The number, the state and the need.
-fn ending(out: &mut Out, at: usize, end: End, state: State) -> usize {
-    let numbers = [end_number(end), state.at as u64, state.used as u64];
-    let done = writer::pattern(out, at, b"# resume=# used=#", &numbers);
-    need(out, done, end)
+// How many bytes are missing: a flag, 0 where the call does not wait for any, and the number.
+fn waits(end: End) -> u64 {
+    match end {
+        End::Waits(_) => 1,
+        _ => 0,
+    }
 }
 
-// How many bytes are missing, or `-` where the call does not wait for any.
-fn need(out: &mut Out, at: usize, end: End) -> usize {
-    let front = writer::literal(out, at, b" need=");
+fn need(end: End) -> u64 {
     match end {
-        End::Waits(n) => writer::decimal(out, front, n as u64),
-        _ => writer::byte(out, front, b'-'),
+        End::Waits(n) => n as u64,
+        _ => 0,
     }
+}
+
+// The number, the state and the need.
+fn ending(out: &mut Out, at: usize, end: End, state: State) -> usize {
+    let numbers = [
+        end_number(end),
+        state.at as u64,
+        state.used as u64,
+        waits(end),
+        need(end),
+    ];
+    pattern::fill(out, at, b"# resume=# used=# need=%", &numbers, 0, b"")
 }
 
 // The entries from `from` up to `to`.
@@ -238,7 +250,7 @@ fn entry(out: &mut Out, at: usize, e: &[u64]) -> usize {
     if e.len() < 4 {
         return at;
     }
-    let done = writer::pattern(out, at, b" (# # # ", e);
+    let done = pattern::fill(out, at, b" (# # # ", e, 0, b"");
     kind(out, done, e[3])
 }
 

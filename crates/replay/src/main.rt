@@ -3,7 +3,7 @@
 //
 // - lines: reads blocks and finds the lines. The only loop over the input.
 // - answer: the line of one request, by its kind. zts, fwd, skip, consume, len, mi, ti, msg, args, indexed: the kinds.
-// - types, argument, contents, message: message types, type infos, arguments, payloads and messages as answers show them.
+// - message, contents: a message, its payload and an argument as answers show them; pattern: how numbers become text.
 // - fields, digits: the words of a line, and the numbers and bytes in them.
 // - writer: text, numbers and bytes into a buffer that is written out whenever it is full.
 //
@@ -13,7 +13,6 @@ ghost use lib.ListN.{length};
 
 mod answer;
 mod args;
-mod argument;
 mod consume;
 mod contents;
 mod digits;
@@ -25,9 +24,9 @@ mod lines;
 mod message;
 mod mi;
 mod msg;
+mod pattern;
 mod skip;
 mod ti;
-mod types;
 mod writer;
 mod zts;
 

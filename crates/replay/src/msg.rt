@@ -63,12 +63,8 @@ fn parsed(s: &[u8], got: GotParsed, out: &mut Out, at: usize) -> usize {
             message::message(out, used, s, m, end)
         }
         ParsedMessage::FilteredOut(n) => {
-            writer::pattern(
-                out,
-                at,
-                b"0 filtered used=# plen=#",
-                &[end as u64, n as u64],
-            )
+            let used = writer::labelled(out, at, b"0 filtered used=", end as u64);
+            writer::labelled(out, used, b" plen=", n as u64)
         }
     }
 }

@@ -2,11 +2,15 @@
 use crate::digits;
 use crate::digits::Word;
 use crate::fields;
-use crate::types;
+use crate::pattern;
 use crate::writer;
 use crate::writer::Out;
+use dlt::Argument;
 use dlt::Decoded;
+use dlt::OptPoint;
 use dlt::TypeInfo;
+use dlt::Value;
+use headertype::OptRange;
 
 // The answer to a request whose kind ends at `kind_end`.
 pub fn answer(line: &[u8], kind_end: usize, out: &mut Out, at: usize) -> usize {
@@ -24,9 +28,23 @@ pub fn answer(line: &[u8], kind_end: usize, out: &mut Out, at: usize) -> usize {
 fn shown(info: u32, out: &mut Out, at: usize) -> usize {
     match TypeInfo::try_from(info) {
         Decoded::Accepted(t) => {
-            let done = writer::literal(out, at, b"0 ");
-            types::type_info(out, done, t)
+            let mut numbers = [0u64; 23];
+            numbers::put_argument(&mut numbers, 0, 0, false, of_type(t));
+            pattern::fill(out, at, b"0 $,#,#,#", &numbers, 5, b"")
         }
         Decoded::Refused => writer::hickup(out, at, 2),
+    }
+}
+
+// An argument that has nothing but a type.
+fn of_type(t: TypeInfo) -> Argument {
+    Argument {
+        type_info: t,
+        name: OptRange::Absent,
+        unit: OptRange::Absent,
+        fixed_point: OptPoint::Absent,
+        value: Value::Bool(0),
+        start: 0,
+        end: 0,
     }
 }

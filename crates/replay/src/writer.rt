@@ -1,8 +1,5 @@
 // Writes into a buffer `out`, of which the first `at` bytes wait to be written. Each function takes `at` and answers the new one. Where the
 // buffer is full it is written out first, so an answer may be longer than the buffer.
-use headertype::OptRange;
-use wire::Range;
-
 pub type Out = [u8; 65536];
 
 // Writes out what waits. Answers that nothing does.
@@ -39,47 +36,13 @@ pub fn decimal(out: &mut Out, at: usize, n: u64) -> usize {
     literal(out, at, &spelled[..k])
 }
 
-// The number at a place, 0 where there is none.
-fn number_at(numbers: &[u64], place: usize) -> u64 {
-    if place < numbers.len() {
-        return numbers[place];
+// A number in decimal by two's complement, with a `-` before it where it is negative.
+pub fn signed(out: &mut Out, at: usize, n: u64) -> usize {
+    if n < 9223372036854775808 {
+        return decimal(out, at, n);
     }
-    0
-}
-
-// A text, with the next of the numbers in the place of each `#`.
-pub fn pattern(out: &mut Out, at: usize, text: &[u8], numbers: &[u64]) -> usize {
-    let mut next = at;
-    let mut used = 0;
-    let mut i = 0;
-    while i < text.len() {
-        let c = text[i];
-        i += 1;
-        if c == b'#' {
-            next = decimal(out, next, number_at(numbers, used));
-            used += 1;
-            continue;
-        }
-        next = byte(out, next, c);
-    }
-    next
-}
-
-// How far a number is from 0.
-fn magnitude(n: i64) -> u64 {
-    if n >= 0 {
-        return n as u64;
-    }
-    (-1 - n) as u64 + 1
-}
-
-// A number in decimal, with a `-` before it where it is negative.
-pub fn signed(out: &mut Out, at: usize, n: i64) -> usize {
-    let mut next = at;
-    if n < 0 {
-        next = byte(out, at, b'-');
-    }
-    decimal(out, next, magnitude(n))
+    let minus = byte(out, at, b'-');
+    decimal(out, minus, std::num::wrapping_sub_u64(0, n))
 }
 
 // A character and a number in decimal.
@@ -94,27 +57,11 @@ pub fn labelled(out: &mut Out, at: usize, label: &[u8], n: u64) -> usize {
     decimal(out, next, n)
 }
 
-// The bits of a number, by two's complement.
-pub fn bits(n: i64) -> u64 {
-    let m = magnitude(n);
-    if n < 0 {
-        std::num::wrapping_sub_u64(0, m)
-    } else {
-        m
-    }
-}
-
 // A number in hex, with zeros in front up to `width` digits (16 at most).
 pub fn hex_number(out: &mut Out, at: usize, n: u64, width: usize) -> usize {
     let mut spelled = [0u8; 16];
     let k = io::hex(n, width, &mut spelled);
     literal(out, at, &spelled[..k])
-}
-
-// A label and a number in hex.
-pub fn labelled_hex(out: &mut Out, at: usize, label: &[u8], n: u64, width: usize) -> usize {
-    let next = literal(out, at, label);
-    hex_number(out, next, n, width)
 }
 
 // The hex digit of a byte's last four bits.
@@ -142,24 +89,6 @@ pub fn text(out: &mut Out, at: usize, s: &[u8], start: usize, len: usize) -> usi
     let shown = hex_bytes(out, at, s, start, len);
     let placed = marked(out, shown, b'@', start as u64);
     marked(out, placed, b'+', len as u64)
-}
-
-// A label and a TEXT.
-pub fn range(out: &mut Out, at: usize, label: &[u8], s: &[u8], place: Range) -> usize {
-    let done = literal(out, at, label);
-    text(out, done, s, place.start, place.len)
-}
-
-// A label and `.TEXT`, or `-` where there is none.
-pub fn maybe_range(out: &mut Out, at: usize, label: &[u8], s: &[u8], place: OptRange) -> usize {
-    let done = literal(out, at, label);
-    match place {
-        OptRange::Present(found) => {
-            let dot = byte(out, done, b'.');
-            text(out, dot, s, found.start, found.len)
-        }
-        OptRange::Absent => byte(out, done, b'-'),
-    }
 }
 
 pub fn bad_request(out: &mut Out, at: usize) -> usize {
