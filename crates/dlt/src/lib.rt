@@ -30,90 +30,11 @@ pub use messageinfo::VERBOSE_FLAG;
 pub use messageinfo::u8_to_log_level;
 use wire::Range;
 
-// ---- type info
-
-// The weights of a type info word's flags.
-const TYPE_INFO_VARIABLE_INFO: u32 = 2048;
-
-const TYPE_INFO_FIXED_POINT_FLAG: u32 = 4096;
-
-const TYPE_INFO_TRACE_INFO_FLAG: u32 = 8192;
-
-pub enum FloatWidth {
-    Width32,
-    Width64,
-}
-
-pub enum TypeLength {
-    BitLength8,
-    BitLength16,
-    BitLength32,
-    BitLength64,
-    BitLength128,
-}
-
-pub enum OptFloatWidth {
-    Present(FloatWidth),
-    Absent,
-}
-
-pub enum OptTypeLength {
-    Present(TypeLength),
-    Absent,
-}
-
-pub enum TypeInfoKind {
-    Bool,
-    Signed(TypeLength),
-    SignedFixedPoint(FloatWidth),
-    Unsigned(TypeLength),
-    UnsignedFixedPoint(FloatWidth),
-    Float(FloatWidth),
-    StringType,
-    Raw,
-}
-
-pub enum OptKind {
-    Present(TypeInfoKind),
-    Absent,
-}
-
-pub enum StringCoding {
-    ASCII,
-    UTF8,
-    Reserved(u8),
-}
-
-pub struct TypeInfo {
-    pub kind: TypeInfoKind,
-    pub coding: StringCoding,
-    pub has_variable_info: bool,
-    pub has_trace_info: bool,
-}
-
-// What a type info word is: Ok and Err of the source.
-pub enum Decoded {
-    Accepted(TypeInfo),
-    Refused,
-}
-
-// ---- values and arguments
+// ---- values, and the parts of type info
 
 pub enum FixedPointValue {
     I32(i32),
     I64(i64),
-}
-
-// The quantization as a float, and its pattern beside it: of a NaN only the pattern says which.
-pub struct FixedPoint {
-    pub quantization: f32,
-    pub pattern: u32,
-    pub offset: FixedPointValue,
-}
-
-pub enum OptPoint {
-    Present(FixedPoint),
-    Absent,
 }
 
 // A number of 128 bits is its two halves. A float that is no number has a case of its own, with its pattern.
@@ -137,18 +58,43 @@ pub enum Value {
     Raw(Range),
 }
 
-// An argument, and where it stands in the bytes.
-pub struct Argument {
-    pub type_info: TypeInfo,
-    pub name: OptRange,
-    pub unit: OptRange,
-    pub fixed_point: OptPoint,
-    pub value: Value,
-    pub start: usize,
-    pub end: usize,
+pub enum StringCoding {
+    ASCII,
+    UTF8,
+    Reserved(u8),
 }
 
-// ---- the type info word
+pub enum FloatWidth {
+    Width32,
+    Width64,
+}
+
+pub enum OptFloatWidth {
+    Present(FloatWidth),
+    Absent,
+}
+
+pub fn float_width_to_type_length(width: FloatWidth) -> TypeLength
+    ensures { λ r. ⌜ r ≡ wideLength width ⌝ }
+{
+    match width {
+        FloatWidth::Width32 => TypeLength::BitLength32,
+        FloatWidth::Width64 => TypeLength::BitLength64,
+    }
+}
+
+pub enum TypeLength {
+    BitLength8,
+    BitLength16,
+    BitLength32,
+    BitLength64,
+    BitLength128,
+}
+
+pub enum OptTypeLength {
+    Present(TypeLength),
+    Absent,
+}
 
 impl FloatWidth {
     pub fn width_in_bytes(self) -> usize
@@ -175,14 +121,36 @@ impl TypeLength {
     }
 }
 
-pub fn float_width_to_type_length(width: FloatWidth) -> TypeLength
-    ensures { λ r. ⌜ r ≡ wideLength width ⌝ }
-{
-    match width {
-        FloatWidth::Width32 => TypeLength::BitLength32,
-        FloatWidth::Width64 => TypeLength::BitLength64,
-    }
+pub enum TypeInfoKind {
+    Bool,
+    Signed(TypeLength),
+    SignedFixedPoint(FloatWidth),
+    Unsigned(TypeLength),
+    UnsignedFixedPoint(FloatWidth),
+    Float(FloatWidth),
+    StringType,
+    Raw,
 }
+
+pub enum OptKind {
+    Present(TypeInfoKind),
+    Absent,
+}
+
+pub struct TypeInfo {
+    pub kind: TypeInfoKind,
+    pub coding: StringCoding,
+    pub has_variable_info: bool,
+    pub has_trace_info: bool,
+}
+
+// What a type info word is: Ok and Err of the source.
+pub enum Decoded {
+    Accepted(TypeInfo),
+    Refused,
+}
+
+// ---- the type info word
 
 fn type_len(info: u32) -> OptTypeLength
     ensures { λ r. ⌜ r ≡ typeLengthOf (info % 16) ⌝ }
@@ -295,3 +263,35 @@ impl TypeInfo {
         }
     }
 }
+
+// ---- arguments
+
+// The quantization as a float, and its pattern beside it: of a NaN only the pattern says which.
+pub struct FixedPoint {
+    pub quantization: f32,
+    pub pattern: u32,
+    pub offset: FixedPointValue,
+}
+
+pub enum OptPoint {
+    Present(FixedPoint),
+    Absent,
+}
+
+// An argument, and where it stands in the bytes.
+pub struct Argument {
+    pub type_info: TypeInfo,
+    pub name: OptRange,
+    pub unit: OptRange,
+    pub fixed_point: OptPoint,
+    pub value: Value,
+    pub start: usize,
+    pub end: usize,
+}
+
+// The weights of a type info word's flags.
+const TYPE_INFO_VARIABLE_INFO: u32 = 2048;
+
+const TYPE_INFO_FIXED_POINT_FLAG: u32 = 4096;
+
+const TYPE_INFO_TRACE_INFO_FLAG: u32 = 8192;

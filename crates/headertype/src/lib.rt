@@ -18,31 +18,9 @@ pub enum OptRange {
     Absent,
 }
 
-pub const STORAGE_HEADER_LENGTH: usize = 16;
-
-// The weights of the header type byte's flags.
-pub const WITH_EXTENDED_HEADER_FLAG: u8 = 1;
-
-pub const BIG_ENDIAN_FLAG: u8 = 2;
-
-pub const WITH_ECU_ID_FLAG: u8 = 4;
-
-pub const WITH_SESSION_ID_FLAG: u8 = 8;
-
-pub const WITH_TIMESTAMP_FLAG: u8 = 16;
-
-const HEADER_MIN_LENGTH: u16 = 4;
-
-const EXTENDED_HEADER_LENGTH: u16 = 10;
-
 pub enum Endianness {
     Little,
     Big,
-}
-
-pub struct DltTimeStamp {
-    pub seconds: u32,
-    pub microseconds: u32,
 }
 
 pub struct StorageHeader {
@@ -59,6 +37,11 @@ pub struct StandardHeader {
     pub session_id: OptNum,
     pub timestamp: OptNum,
     pub payload_length: u16,
+}
+
+pub struct DltTimeStamp {
+    pub seconds: u32,
+    pub microseconds: u32,
 }
 
 fn one_if(b: bool) -> u8
@@ -94,24 +77,6 @@ fn num_bit(o: OptNum) -> u8
     }
 }
 
-// The length of the standard header that a type byte announces.
-fn calculate_standard_header_length(typ: u8) -> u16
-    ensures { λ r. ⌜ (r ≡ standardLength typ) × (r ≤ 16) ⌝ }
-{
-    let ecu = (typ / WITH_ECU_ID_FLAG % 2) as u16;
-    let session = (typ / WITH_SESSION_ID_FLAG % 2) as u16;
-    let time = (typ / WITH_TIMESTAMP_FLAG % 2) as u16;
-    HEADER_MIN_LENGTH + ecu * 4 + session * 4 + time * 4
-}
-
-// The length of all headers that a type byte announces.
-pub fn calculate_all_headers_length(typ: u8) -> u16
-    ensures { λ r. ⌜ r ≡ allHeaders typ ⌝ }
-{
-    let extended = (typ / WITH_EXTENDED_HEADER_FLAG % 2) as u16;
-    calculate_standard_header_length(typ) + extended * EXTENDED_HEADER_LENGTH
-}
-
 impl StandardHeader {
     // The type byte that announces this header.
     pub fn header_type_byte(self) -> u8
@@ -142,4 +107,39 @@ impl StandardHeader {
         let typ = self.header_type_byte();
         calculate_all_headers_length(typ) as u32 + payload_length as u32
     }
+}
+
+pub const STORAGE_HEADER_LENGTH: usize = 16;
+
+// The weights of the header type byte's flags.
+pub const WITH_EXTENDED_HEADER_FLAG: u8 = 1;
+
+pub const BIG_ENDIAN_FLAG: u8 = 2;
+
+pub const WITH_ECU_ID_FLAG: u8 = 4;
+
+pub const WITH_SESSION_ID_FLAG: u8 = 8;
+
+pub const WITH_TIMESTAMP_FLAG: u8 = 16;
+
+const HEADER_MIN_LENGTH: u16 = 4;
+
+const EXTENDED_HEADER_LENGTH: u16 = 10;
+
+// The length of the standard header that a type byte announces.
+fn calculate_standard_header_length(typ: u8) -> u16
+    ensures { λ r. ⌜ (r ≡ standardLength typ) × (r ≤ 16) ⌝ }
+{
+    let ecu = (typ / WITH_ECU_ID_FLAG % 2) as u16;
+    let session = (typ / WITH_SESSION_ID_FLAG % 2) as u16;
+    let time = (typ / WITH_TIMESTAMP_FLAG % 2) as u16;
+    HEADER_MIN_LENGTH + ecu * 4 + session * 4 + time * 4
+}
+
+// The length of all headers that a type byte announces.
+pub fn calculate_all_headers_length(typ: u8) -> u16
+    ensures { λ r. ⌜ r ≡ allHeaders typ ⌝ }
+{
+    let extended = (typ / WITH_EXTENDED_HEADER_FLAG % 2) as u16;
+    calculate_standard_header_length(typ) + extended * EXTENDED_HEADER_LENGTH
 }

@@ -6,7 +6,7 @@ use mathlib.Core.Bool.{Bool, true, false}
 use mathlib.Core.List.{List, [], _∷_}
 use lib.ListN.{length, getD}
 use lib.Dec.{leb, eqb}
-use borrow.Author.Tests.{leb-true, le-leb, lt-leb, eq-eqb, ne-eqb}
+use borrow.Author.Tests.{le-leb, lt-leb}
 use Rattle.table.specs.Over.{over}
 use Rattle.wire.specs.Parser.{pick}
 use Rattle.wire.specs.Number.{numberOf, number, u32Ans}
@@ -17,7 +17,7 @@ use Rattle.wire.specs.declared.GotRange.{GotRange}
 use Rattle.wire.specs.declared.U32Ans.{U32Ans}
 use Rattle.wire.specs.declared.GotU32.{GotU32}
 use Rattle.wire.proofs.Step.{told}
-use Rattle.strings.specs.Text.{textOf, identified}
+use Rattle.strings.specs.Text.{letter, textOf, identified}
 use Rattle.strings.proofs.Strings.{letters-all}
 use Rattle.headertype.specs.Bits.{flag}
 use Rattle.headertype.specs.HeaderType.{allHeaders}
@@ -33,7 +33,7 @@ use Rattle.outline.specs.There.{behind, idIf, numberIf, standardAt, extendedPla
 use Rattle.outline.specs.declared.Outline.{Outline}
 use Rattle.outline.proofs.There.{number-there, id-there}
 use Rattle.numbers.specs.Layout.{oneIf, orderNumber, rangeNumbers, numNumbers, storageNumbers, frontNumbers, standardNumbers, extendedNumbers, payloadNumbers, leadNumbers}
-use Rattle.numbers.specs.Outlined.{letterAt, outlinedItem, outlinedLaid}
+use Rattle.numbers.specs.Outlined.{outlinedItem, outlinedLaid}
 use Rattle.numbers.proofs.Rows.{standard-row, lead-row, item-row, message-short}
 
 -- ---- fields that are there
@@ -57,30 +57,24 @@ module _ (s : List ℕ) (at : ℕ) where
   id-missing x n h e q = no-need (sym (told rangeAns e q) ∙ id-there s at h)
 
 -- ---- identifiers of four letters
-module _ (s : List ℕ) (at : ℕ) where
-  pub letter-zero : getD s at 0 ≡ 0 → false ≡ letterAt s at
-  letter-zero h = rw (eq-eqb _ _ h)
+module _ (b : ℕ) where
+  pub letter-zero : b ≡ 0 → false ≡ letter b
+  letter-zero h = rw (lt-leb 1 b (omega (arith, h)))
 
-  pub letter-else : (getD s at 0 ≡ 0 → ⊥) → leb (getD s at 0) 0x7F ≡ letterAt s at
-  letter-else h = rw (ne-eqb _ _ h)
-
-letter-bounds : (b : ℕ) → pick (eqb b 0) false (leb b 0x7F) ≡ true → (0 < b) × (b ≤ 0x7F)
-letter-bounds zero e = let z : _≡_ {A = ℕ} 0 1 = cc in absurd (omega arith)
-letter-bounds (suc b) e =
-    let w : leb (suc b) 0x7F ≡ pick (eqb (suc b) 0) false (leb (suc b) 0x7F) = rw (ne-eqb (suc b) 0 (λ z. omega arith)) in
-    (omega arith, leb-true (suc b) 0x7F (w ∙ e))
+  pub letter-else : (b ≡ 0 → ⊥) → leb b 0x7F ≡ letter b
+  letter-else h = rw (le-leb 1 b (omega (arith, h)))
 
 -- a to d are what calls gave for the four bytes
-pub letters-four : (s : List ℕ) (at : ℕ) (a b c d : Bool) → a ≡ letterAt s at → a ≡ true → b ≡ letterAt s (at + 1) → b ≡ true → c ≡ letterAt s (at + 2) → c ≡ true → d ≡ letterAt s (at + 3) → d ≡ true
+pub letters-four : (s : List ℕ) (at : ℕ) (a b c d : Bool) → a ≡ letter (getD s at 0) → a ≡ true → b ≡ letter (getD s (at + 1) 0) → b ≡ true → c ≡ letter (getD s (at + 2) 0) → c ≡ true → d ≡ letter (getD s (at + 3) 0) → d ≡ true
     → range at 4 ≡ textOf 4 s at
 unfolding textOf
 letters-four s at a b c d ea ta eb tb ec tc ed td = ap (range at) (letters-all s at 4 4 refl (omega arith, each))
   where
-    each : (i : ℕ) → i < 4 → (0 < getD s (at + i) 0) × (getD s (at + i) 0 ≤ 0x7F)
-    each zero h = let z : at + 0 ≡ at = omega arith in rw z (letter-bounds (getD s at 0) (sym ea ∙ ta))
-    each (suc zero) h = letter-bounds (getD s (at + 1) 0) (sym eb ∙ tb)
-    each (suc (suc zero)) h = letter-bounds (getD s (at + 2) 0) (sym ec ∙ tc)
-    each (suc (suc (suc zero))) h = letter-bounds (getD s (at + 3) 0) (sym ed ∙ td)
+    each : (i : ℕ) → i < 4 → letter (getD s (at + i) 0) ≡ true
+    each zero h = let z : at + 0 ≡ at = omega arith in rw z (sym ea ∙ ta)
+    each (suc zero) h = sym eb ∙ tb
+    each (suc (suc zero)) h = sym ec ∙ tc
+    each (suc (suc (suc zero))) h = sym ed ∙ td
     each (suc (suc (suc (suc i)))) h = absurd (omega arith)
 
 pub behind-four : (t : Bool) (at : ℕ) → t ≡ true → at + 4 ≡ behind t at

@@ -1,9 +1,8 @@
 -- A message whose headers stand where an outline says (crate outline), as numbers: its headers are told from the bytes, its payload is given.
 use Prim.Native.Nat.{ℕ, _+_, _-_}
-use mathlib.Core.Bool.{Bool, false}
 use mathlib.Core.List.{List}
-use lib.ListN.{length, getD}
-use lib.Dec.{leb, eqb}
+use lib.ListN.{length}
+use lib.Dec.{leb}
 use Rattle.wire.specs.Parser.{pick}
 use Rattle.headertype.specs.Bits.{flag}
 use Rattle.payload.specs.declared.PayloadContent.{PayloadContent}
@@ -11,10 +10,6 @@ use Rattle.parse.specs.declared.ParsedMessage.{ParsedMessage}
 use Rattle.outline.specs.There.{storedAt, standardAt, extendedPlace, extendedIf}
 use Rattle.outline.specs.declared.Outline.{Outline}
 use Rattle.numbers.specs.Layout.{messageLaid}
-
--- a byte from 1 to 7F at a place
-abbrev pub letterAt : List ℕ → ℕ → Bool
-letterAt s at = pick (eqb (getD s at 0) 0) false (leb (getD s at 0) 0x7F)
 
 unfoldable pub outlinedItem : List ℕ → Outline → PayloadContent → ParsedMessage
 outlinedItem s o p = ParsedMessage.Item (record {

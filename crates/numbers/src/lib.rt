@@ -4,11 +4,11 @@ ghost use mathlib.Core.Path.{_≡_};
 ghost use mathlib.Core.List.{[], _∷_};
 ghost use mathlib.Core.Bool.{true};
 ghost use Prim.Native.Nat.{_+_, _-_, _≤_, _<_};
-ghost use lib.ListN.{length};
+ghost use lib.ListN.{length, getD};
 ghost use lib.Ieee.{binary32, binary64, toBits};
 ghost use Rattle.table.specs.Over.{over};
 ghost use Rattle.wire.specs.Number.{numberOf};
-ghost use Rattle.strings.specs.Text.{textOf};
+ghost use Rattle.strings.specs.Text.{letter, textOf};
 ghost use Rattle.headertype.specs.HeaderType.{allHeaders};
 ghost use Rattle.outline.specs.There.{behind, idIf, numberIf, storedAt, standardAt, extendedPlace, extendedIf};
 ghost use Rattle.messageinfo.specs.Kept.{applicationNumber, networkNumber, controlNumber, typeNumber, subtypeNumber};
@@ -16,7 +16,7 @@ ghost use Rattle.messageinfo.specs.Level.{number};
 ghost use Rattle.parse.specs.Message.{itemOf};
 ghost use Rattle.parse.specs.declared.ParsedMessage.{ParsedMessage};
 ghost use Rattle.numbers.specs.Layout.{oneIf, orderNumber, rangeNumbers, numNumbers, storageNumbers, frontNumbers, standardNumbers, extendedNumbers, payloadNumbers, leadNumbers, messageLaid};
-ghost use Rattle.numbers.specs.Outlined.{letterAt, outlinedLaid};
+ghost use Rattle.numbers.specs.Outlined.{outlinedLaid};
 ghost use Rattle.numbers.specs.Arguments.{signedBits, lengthBits, widthBits, kindNumber, kindBits, codingNumber, valueNumber, valueFirst, valueSecond, offsetWidth, offsetBits, kindNumbers, codingNumbers, pointNumbers, valueNumbers, typeNumbers, nameNumbers, contentNumbers, argumentNumbers, argumentLaid};
 use dlt::Argument;
 use dlt::FixedPointValue;
@@ -395,10 +395,10 @@ fn word_at(s: &[u8], at: usize, big: bool) -> u32
     }
 }
 
-// Whether a letter stands at a place, a byte from 1 to 7F.
+// Whether a letter stands at a place.
 fn letter_at(s: &[u8], at: usize) -> bool
     requires { ⌜ at + 1 ≤ length (now s) ⌝ }
-    ensures { λ r. ⌜ r ≡ letterAt (now (s .entry)) at ⌝ }
+    ensures { λ r. ⌜ r ≡ letter (getD (now (s .entry)) at 0) ⌝ }
 {
     if s[at] == 0 {
         return false;

@@ -3,7 +3,7 @@ use Prim.Native.Nat.{ℕ, zero, suc, _+_, _-_, _*_, _≤_, _<_, zero-le}
 use native.Mathlib.Omega.{arith}
 use native.Mathlib.Nat.{add-zero, zero-add, sub-zero, sub-self, not-suc-le-zero}
 use mathlib.Core.Path.{_≡_, refl, sym, ap, ap₂, _∙_, subst}
-use mathlib.Core.Bool.{Bool, true, false}
+use mathlib.Core.Bool.{Bool, true, false, _&&_}
 use mathlib.Core.List.{List, _++_}
 use lib.ListN.{length, getD, List·getD-append}
 use lib.Dec.{leb, ltb, eqb}
@@ -18,7 +18,7 @@ use Rattle.wire.specs.declared.GotRange.{GotRange}
 use Rattle.wire.proofs.Laws.{sized-law}
 use Rattle.wire.proofs.Step.{asking-done, asking-need}
 use Rattle.strings.specs.Utf8.{validUpTo, least}
-use Rattle.strings.specs.Text.{before0, Letters, textNeed, textOf, text, identified}
+use Rattle.strings.specs.Text.{before0, letter, Letters, textNeed, textOf, text, identified}
 use Rattle.strings.proofs.Utf8.{validUpTo-same, Valid, valid-none, valid-more, valid-all, one-letter}
 use Rattle.strings.proofs.Longest.{prefix-within}
 
@@ -101,14 +101,28 @@ module _ (s : List ℕ) (at n : ℕ) where
       omega (arith, h .1, ap (λ (i : ℕ). before0 i s (at + k)) z)
 
 -- ---- letters: none is zero, and each is a sequence by itself
+pub no-truth : {X : Type 0} → false ≡ true → X
+no-truth e = let z : _≡_ {A = ℕ} 0 1 = cc in absurd (omega arith)
+
+letter-is : (b : ℕ) → letter b ≡ true → (0 < b) × (b ≤ 0x7F)
+letter-is b e = by (leb 1 b) (leb b 0x7F) refl refl e
+  where
+    by : (t u : Bool) → leb 1 b ≡ t → leb b 0x7F ≡ u → (t && u) ≡ true → (0 < b) × (b ≤ 0x7F)
+    by true true p q z = (leb-true 1 b p, leb-true b 0x7F q)
+    by true false p q z = no-truth z
+    by false u p q z = no-truth z
+
+is-letter : (b : ℕ) → (b ≡ 0 → ⊥) → b ≤ 0x7F → letter b ≡ true
+is-letter b z h = rw (le-leb 1 b (omega (arith, z)), le-leb b 0x7F h)
+
 module _ (s : List ℕ) (at n : ℕ) where
   pub letters-more : (k : ℕ) → k < n → (getD s (at + k) 0 ≡ 0 → ⊥) → getD s (at + k) 0 ≤ 0x7F → Letters s at n k → Letters s at n (k + 1)
   letters-more k l z h p = (omega arith, λ i j. by i j (leb k i) refl)
     where
-      by : (i : ℕ) → i < k + 1 → (t : Bool) → leb k i ≡ t → (0 < getD s (at + i) 0) × (getD s (at + i) 0 ≤ 0x7F)
+      by : (i : ℕ) → i < k + 1 → (t : Bool) → leb k i ≡ t → letter (getD s (at + i) 0) ≡ true
       by i j true e =
           let q : k ≡ i = omega (arith, leb-true k i e) in
-          rw (← q) (omega (arith, z), h)
+          rw (← q) (is-letter _ z h)
       by i j false e = p .1 i (omega (arith, leb-false k i e))
 
   fewer-letters : (k : ℕ) → Letters s at n (suc k) → Letters s at n k
@@ -117,14 +131,14 @@ module _ (s : List ℕ) (at n : ℕ) where
   letters-passed : (k : ℕ) → Letters s at n k → Passed s at n k
   letters-passed zero p = passed-none s at n
   letters-passed (suc k) p =
-      let b = p .1 k (omega arith) in
+      let b = letter-is (getD s (at + k) 0) (p .1 k (omega arith)) in
       let q : suc k ≡ k + 1 = omega arith in
       rw q (passed-more s at n k (omega (arith, p .0)) (λ e. omega (arith, e, b .0)) (letters-passed k (fewer-letters k p)))
 
   letters-valid : (k : ℕ) → Letters s at n k → Valid s at n k
   letters-valid zero p = valid-none s at n
   letters-valid (suc k) p =
-      let b = p .1 k (omega arith) in
+      let b = letter-is (getD s (at + k) 0) (p .1 k (omega arith)) in
       let q : suc k ≡ k + 1 = omega arith in
       rw q (valid-more s at n k 1 (omega (arith, p .0)) (one-letter (n - k) s (at + k) (omega (arith, p .0)) (b .1)) (λ e. omega (arith, e)) (letters-valid k (fewer-letters k p)))
 

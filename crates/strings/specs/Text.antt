@@ -1,8 +1,10 @@
 -- Strings of a size: document 01, "Strings" and "Needs".
 use Prim.Native.Nat.{ℕ, zero, suc, _+_, _-_, _≤_, _<_}
+use mathlib.Core.Path.{_≡_}
+use mathlib.Core.Bool.{Bool, true, _&&_}
 use mathlib.Core.List.{List}
 use lib.ListN.{length, getD}
-use lib.Dec.{ltb, eqb}
+use lib.Dec.{ltb, leb, eqb}
 use Rattle.wire.specs.Answer.{Ans, Parser}
 use Rattle.wire.specs.Answer.Ans.{done}
 use Rattle.wire.specs.Parser.{asking, pick}
@@ -15,9 +17,13 @@ abbrev pub before0 : ℕ → List ℕ → ℕ → ℕ
 before0 zero s at = 0
 before0 (suc n) s at = pick (eqb (getD s at 0) 0) 0 (suc (before0 n s (suc at)))
 
--- k of n bytes, and the first k from a position are letters: from 1 to 7F
+-- a letter is a byte from 1 to 7F
+abbrev pub letter : ℕ → Bool
+letter b = leb 1 b && leb b 0x7F
+
+-- k of n bytes, and the first k from a position are letters
 abbrev pub Letters : List ℕ → ℕ → ℕ → ℕ → Type 0
-Letters s at n k = (k ≤ n) × ((i : ℕ) → i < k → (0 < getD s (at + i) 0) × (getD s (at + i) 0 ≤ 0x7F))
+Letters s at n k = (k ≤ n) × ((i : ℕ) → i < k → letter (getD s (at + i) 0) ≡ true)
 
 -- the value is the content's longest valid UTF-8 prefix
 unfoldable pub textOf : ℕ → List ℕ → ℕ → Range
