@@ -1,6 +1,6 @@
 //! Arguments, handed out one a call.
 
-use crate::{maybe_text, raw, refused, text, Cursor, Refusal, Text};
+use crate::{maybe_text, raw, refused, text, Cursor, RawCursor, Refusal, Text};
 
 /// An argument, and where it stands in the bytes.
 #[derive(Clone, Copy, Debug, PartialEq)]
@@ -111,6 +111,56 @@ impl Iterator for Arguments<'_> {
         self.list.at = out[raw::ARGUMENT_NEXT] as usize;
         self.list.left = out[raw::ARGUMENT_LEFT] as usize;
         (!self.over).then(|| Ok(argument(&out)))
+    }
+}
+
+/// The raw values of a network trace, read from the bytes that its message was read from. Its other arguments are read and passed over: they are not kept,
+/// and [`arguments`] does not take such a list. It ends after a refusal.
+///
+/// ```
+/// // a bool, then three raw bytes
+/// let bytes = [0x21, 0, 0, 14, 0x15, 2, 0, 0, 0, 0, 0, 0, 0, 0, 0x11, 0, 0, 0, 1, 0, 4, 0, 0, 3, 0, 7, 8, 9];
+/// let (parsed, used) = host::message(&bytes, &[], false).unwrap();
+/// assert_eq!(used, 28);
+/// let host::Parsed::Item(message) = parsed else { panic!() };
+/// let host::Payload::NetworkTrace(trace) = message.payload else { panic!() };
+/// let all: Vec<_> = host::raw_values(&bytes, trace).map(|value| value.unwrap().of(&bytes)).collect();
+/// assert_eq!(all, [[7, 8, 9]]);
+/// ```
+///
+/// ```compile_fail
+/// # let bytes = [0x21, 0, 0, 14, 0x15, 0, 0, 0, 0, 0, 0, 0, 0, 0];
+/// # let (host::Parsed::Item(message), _) = host::message(&bytes, &[], false).unwrap() else { panic!() };
+/// # let host::Payload::NetworkTrace(trace) = message.payload else { panic!() };
+/// host::arguments(&bytes, trace);
+/// ```
+pub fn raw_values(bytes: &[u8], trace: RawCursor) -> RawValues<'_> {
+    RawValues { bytes, trace, over: false }
+}
+
+/// See [`raw_values`].
+pub struct RawValues<'a> {
+    bytes: &'a [u8],
+    trace: RawCursor,
+    over: bool,
+}
+
+impl Iterator for RawValues<'_> {
+    type Item = Result<Text, Refusal>;
+
+    fn next(&mut self) -> Option<Self::Item> {
+        if self.over {
+            return None;
+        }
+        let mut out = [0; raw::RAW_SIZE];
+        let answer = raw::raw_value(self.bytes, self.trace.at, self.trace.left, self.trace.big_endian, &mut out);
+        self.over = answer.number != raw::DONE || answer.value == 0;
+        if let Err(refusal) = refused(answer) {
+            return Some(Err(refusal));
+        }
+        self.trace.at = out[raw::RAW_NEXT] as usize;
+        self.trace.left = out[raw::RAW_LEFT] as usize;
+        (!self.over).then(|| Ok(text(&out, raw::RAW_START)))
     }
 }
 

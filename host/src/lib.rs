@@ -18,9 +18,9 @@ pub mod raw;
 pub mod text;
 mod trace;
 
-pub use argument::{arguments, signals, Argument, Arguments, FixedPoint, Kind, Offset, Signals, TypeInfo, Value};
+pub use argument::{arguments, raw_values, signals, Argument, Arguments, FixedPoint, Kind, Offset, RawValues, Signals, TypeInfo, Value};
 pub use trace::{index, index_in_steps, End, Entry, EntryKind, IndexRefusal, Indexed, State, NO_LIMIT};
-pub use message::{message, Cursor, ExtendedHeader, Message, MessageType, Parsed, Payload, StandardHeader, StorageHeader};
+pub use message::{message, Cursor, ExtendedHeader, Message, MessageType, Parsed, Payload, RawCursor, StandardHeader, StorageHeader};
 
 /// Why there is no value: document 01's numbers 1 to 4.
 #[derive(Clone, Copy, Debug, PartialEq, Eq)]
@@ -113,8 +113,6 @@ pub fn construct_arguments(big: bool, words: &[u32], data: &[u8]) -> Result<(usi
     Ok((answer.value as usize, answer.used as usize))
 }
 
-// The index call's wrapper comes here: a State, and a Vec of entries owned by the host.
-
 #[cfg(test)]
 mod tests {
     use super::*;
@@ -134,6 +132,11 @@ mod tests {
             assert_eq!(raw::signal(&[0x42], &bytes, 0, 0, false, &mut out).number, raw::SHORT_OUT);
             assert!(out.iter().all(|&n| n == 9));
         }
+        for len in 0..raw::RAW_SIZE {
+            let mut out = vec![9; len];
+            assert_eq!(raw::raw_value(&bytes, 0, 1, false, &mut out), raw::Answer { number: raw::SHORT_OUT, value: 5, used: 0 });
+            assert!(out.iter().all(|&n| n == 9));
+        }
     }
 
     #[test]
@@ -146,6 +149,19 @@ mod tests {
         assert_eq!(out, [9; 40]);
         raw::message(&[0x22, 7, 0, 8, 0, 0, 0, 42], &[], false, &mut out);
         assert_eq!(out[33..], [9; 7]);
+    }
+
+    #[test]
+    fn of_a_network_trace_only_raw_values_are_handed_out() {
+        // one bool: an argument is left, and no raw value comes of it
+        let bytes = [0x21, 0, 0, 14, 0x15, 1, 0, 0, 0, 0, 0, 0, 0, 0, 0x11, 0, 0, 0, 1];
+        let (Parsed::Item(message), 19) = message(&bytes, &[], false).unwrap() else { panic!() };
+        let Payload::NetworkTrace(trace) = message.payload else { panic!() };
+        assert_eq!(trace, RawCursor { at: 14, left: 1, big_endian: false });
+        assert_eq!(raw_values(&bytes, trace).count(), 0);
+        let mut out = [9; 5];
+        assert_eq!(raw::raw_value(&bytes, 14, 1, false, &mut out), raw::Answer { number: 0, value: 0, used: 19 });
+        assert_eq!(out, [9; 5]);
     }
 
     #[test]

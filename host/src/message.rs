@@ -66,18 +66,27 @@ pub enum MessageType {
     Unknown(u8, u8),
 }
 
-/// The payload. A list of arguments is its cursor: [`crate::arguments`] hands them out.
+/// The payload. A list of arguments is its cursor: [`crate::arguments`] hands them out, and of a network trace [`crate::raw_values`] the raw values, which are
+/// all that is kept of it.
 #[derive(Clone, Copy, Debug, PartialEq, Eq)]
 pub enum Payload {
     Verbose(Cursor),
     NonVerbose { id: u32, rest: Text },
     Control { id: u8, rest: Text },
-    NetworkTrace(Cursor),
+    NetworkTrace(RawCursor),
 }
 
 /// Where the next argument of a list stands, and how many are left.
 #[derive(Clone, Copy, Debug, PartialEq, Eq)]
 pub struct Cursor {
+    pub at: usize,
+    pub left: usize,
+    pub big_endian: bool,
+}
+
+/// Where the next argument of a network trace stands, and how many are left, raw or not.
+#[derive(Clone, Copy, Debug, PartialEq, Eq)]
+pub struct RawCursor {
     pub at: usize,
     pub left: usize,
     pub big_endian: bool,
@@ -155,12 +164,12 @@ fn extended(out: &[u64]) -> ExtendedHeader {
 
 fn payload(out: &[u64]) -> Payload {
     let rest = text(out, raw::MESSAGE_START);
-    let list = Cursor { at: rest.start, left: rest.len, big_endian: out[raw::MESSAGE_LIST_BIG] == 1 };
+    let (at, left, big_endian) = (rest.start, rest.len, out[raw::MESSAGE_LIST_BIG] == 1);
     let id = out[raw::MESSAGE_ID];
     match out[raw::MESSAGE_PAYLOAD] {
-        0 => Payload::Verbose(list),
+        0 => Payload::Verbose(Cursor { at, left, big_endian }),
         1 => Payload::NonVerbose { id: id as u32, rest },
         2 => Payload::Control { id: id as u8, rest },
-        _ => Payload::NetworkTrace(list),
+        _ => Payload::NetworkTrace(RawCursor { at, left, big_endian }),
     }
 }

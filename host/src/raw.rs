@@ -52,6 +52,7 @@ mod archive {
     calls! {
         dlt_message(s: *const u8, s_len: usize, f: *const u8, f_len: usize, storage: bool, out: *mut u64, out_len: usize) -> Answer;
         dlt_argument(s: *const u8, s_len: usize, at: usize, left: usize, big: bool, out: *mut u64, out_len: usize) -> Answer;
+        dlt_raw_value(s: *const u8, s_len: usize, at: usize, left: usize, big: bool, out: *mut u64, out_len: usize) -> Answer;
         dlt_forward_to_next_storage_header(s: *const u8, s_len: usize, at: usize) -> Answer;
         dlt_consume_msg(s: *const u8, s_len: usize) -> Answer;
         dlt_construct_arguments(big: bool, words: *const u32, words_len: usize, data: *const u8, data_len: usize) -> Answer;
@@ -70,6 +71,11 @@ pub fn message(s: &[u8], f: &[u8], storage: bool, out: &mut [u64]) -> Answer {
 /// The next argument of a list by its cursor; its numbers go into `out`.
 pub fn argument(s: &[u8], at: usize, left: usize, big: bool, out: &mut [u64]) -> Answer {
     unsafe { archive::dlt_argument(s.as_ptr(), s.len(), at, left, big, out.as_mut_ptr(), out.len()) }
+}
+
+/// The next raw value of a network trace by its cursor; its numbers go into `out`.
+pub fn raw_value(s: &[u8], at: usize, left: usize, big: bool, out: &mut [u64]) -> Answer {
+    unsafe { archive::dlt_raw_value(s.as_ptr(), s.len(), at, left, big, out.as_mut_ptr(), out.len()) }
 }
 
 /// The first storage pattern from `at` on.

@@ -77,17 +77,10 @@ fn payload(bytes: &[u8], message: &Message, end: usize) -> String {
             let all = arguments(bytes, list).map(|one| one.map_or_else(refusal, |one| argument(bytes, &one)));
             format!("V({}-{end}){}", list.at, all.collect::<String>())
         }
-        Payload::NetworkTrace(list) => {
-            let all = arguments(bytes, list).map(|one| one.map_or_else(refusal, |one| raw_value(bytes, &one)));
-            format!("T({}-{end}){}", list.at, all.collect::<String>())
+        Payload::NetworkTrace(trace) => {
+            let all = raw_values(bytes, trace).map(|one| one.map_or_else(refusal, |value| format!("[{}]", shown(bytes, value))));
+            format!("T({}-{end}){}", trace.at, all.collect::<String>())
         }
-    }
-}
-
-fn raw_value(bytes: &[u8], argument: &Argument) -> String {
-    match argument.value {
-        Value::Raw(text) => format!("[{}]", shown(bytes, text)),
-        _ => String::new(),
     }
 }
 

@@ -53,10 +53,10 @@ typedef struct {
 #define DLT_MESSAGE_SUBTYPE 23
 #define DLT_MESSAGE_APPLICATION 24      /* start, length */
 #define DLT_MESSAGE_CONTEXT 26          /* start, length */
-#define DLT_MESSAGE_PAYLOAD 28          /* 0 arguments, 1 non-verbose, 2 control, 3 network trace */
+#define DLT_MESSAGE_PAYLOAD 28          /* 0 arguments: ask dlt_argument; 1 non-verbose; 2 control; 3 network trace: ask dlt_raw_value */
 #define DLT_MESSAGE_ID 29               /* the message id, or the control id */
-#define DLT_MESSAGE_START 30            /* of the bytes behind the id; of a list: where its first argument stands */
-#define DLT_MESSAGE_LENGTH 31           /* of the bytes behind the id; of a list: how many arguments are left */
+#define DLT_MESSAGE_START 30            /* of the bytes behind the id; of a list or a network trace: where its first argument stands */
+#define DLT_MESSAGE_LENGTH 31           /* of the bytes behind the id; of a list or a network trace: how many arguments are left */
 #define DLT_MESSAGE_LIST_BIG 32         /* flag: a list's byte order */
 
 /* What dlt_argument and dlt_signal write where there is an argument (value 1): the cursor to ask next with, and the argument. */
@@ -81,12 +81,25 @@ typedef struct {
 #define DLT_ARGUMENT_FIRST 21           /* the number; two's complement of 64 bits; a float's pattern; 128 bits: the high half; a text's start */
 #define DLT_ARGUMENT_SECOND 22          /* 128 bits: the low half; a text's length; else 0 */
 
+/* What dlt_raw_value writes where there is a raw value (value 1): the cursor to ask next with, and where the value stands. */
+#define DLT_RAW_SIZE 5
+#define DLT_RAW_NEXT 0                  /* where the next argument stands */
+#define DLT_RAW_LEFT 1                  /* how many are left, raw or not */
+#define DLT_RAW_BIG 2                   /* flag */
+#define DLT_RAW_START 3                 /* the value: start, length */
+#define DLT_RAW_LENGTH 4
+
 /* One message at the front of the bytes, under the filter `f` (document 01, "Filter bytes"; length 0: none). */
 dlt_answer dlt_message(const uint8_t *s, size_t s_len, const uint8_t *f, size_t f_len, bool with_storage_header, uint64_t *out, size_t out_len);
 
 /* The next argument of a list by its cursor (`at`, `left`, `big`): value 1 and the numbers, or value 0 at the end of the list. The bytes are those that
-   the message was read from. */
+   the message was read from. Of a network trace only raw values are kept: its cursor belongs to dlt_raw_value, and here it would give arguments that are
+   no part of the message. */
 dlt_answer dlt_argument(const uint8_t *s, size_t s_len, size_t at, size_t left, bool big, uint64_t *out, size_t out_len);
+
+/* The next raw value of a network trace by its cursor: value 1 and the numbers, or value 0 where no raw value is left. Arguments that are not raw are
+   read and passed over. */
+dlt_answer dlt_raw_value(const uint8_t *s, size_t s_len, size_t at, size_t left, bool big, uint64_t *out, size_t out_len);
 
 /* The first place from `at` on where the storage pattern stands: value 1 and `used` the place, or value 0. */
 dlt_answer dlt_forward_to_next_storage_header(const uint8_t *s, size_t s_len, size_t at);

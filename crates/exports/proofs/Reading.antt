@@ -16,6 +16,11 @@ use Rattle.cursor.specs.declared.Cursor.{Cursor}
 use Rattle.cursor.specs.declared.Handed.{Handed}
 use Rattle.cursor.specs.declared.Turn.{Turn}
 use Rattle.cursor.specs.declared.TurnAns.{TurnAns}
+use Rattle.cursor.specs.Raw.{rawTurn, rawTurnAns}
+use Rattle.cursor.specs.declared.RawCursor.{RawCursor}
+use Rattle.cursor.specs.declared.HandedRaw.{HandedRaw}
+use Rattle.cursor.specs.declared.RawTurn.{RawTurn}
+use Rattle.cursor.specs.declared.RawTurnAns.{RawTurnAns}
 use Rattle.signals.specs.Signals.{signalTurn, signalTurnAns, constructAns}
 use Rattle.signals.specs.declared.SignalCursor.{SignalCursor}
 use Rattle.signals.specs.declared.HandedSignal.{HandedSignal}
@@ -44,9 +49,10 @@ use Rattle.parse.specs.declared.GotHeaders.{GotHeaders}
 use Rattle.parse.specs.declared.ParsedMessage.{ParsedMessage}
 use Rattle.numbers.specs.Layout.{messageLaid}
 use Rattle.numbers.specs.Arguments.{argumentLaid}
+use Rattle.numbers.specs.Raw.{rawLaid}
 use Rattle.index.specs.Index.{numberOf, needOf, outcome}
 use Rattle.index.specs.declared.Indexed.{Indexed}
-use Rattle.exports.specs.Calls.{Outcome, told, messageShown, messageCall, turnShown, argumentCall, signalShown, signalCall, IndexOutcome, indexShown, indexCall, foundAnswer, consumeAnswer, constructAnswer}
+use Rattle.exports.specs.Calls.{Outcome, told, messageShown, messageCall, turnShown, argumentCall, rawShown, rawCall, signalShown, signalCall, IndexOutcome, indexShown, indexCall, foundAnswer, consumeAnswer, constructAnswer}
 use Rattle.exports.specs.declared.Answer.{Answer}
 
 abbrev pub numbers : ℕ → ℕ → ℕ → Answer
@@ -130,7 +136,7 @@ module _ (T X : List ℕ) (a : Answer) (f : List ℕ) (filter : Filter) (stored 
   unfolding messageShown message
   heads-hickup n q e = rw (then-hickup (routed f filter stored) body s 0 (step.told headersAns d q), e)
 
--- ---- dlt_argument and dlt_signal
+-- ---- dlt_argument, dlt_raw_value and dlt_signal
 module _ (c : Cursor) (s T : List ℕ) (a : Answer) where
   pub argument-short : length T < 23 → a ≡ numbers 15 23 0 → argumentCall c s T ≡ left a T
   unfolding argumentCall
@@ -159,6 +165,35 @@ module _ (T : List ℕ) (a : Answer) where
   pub turn-hickup : (n : ℕ) → a ≡ numbers 3 n 0 → turnShown T (hickup n) ≡ left a T
   unfolding turnShown
   turn-hickup n e = rw e
+
+module _ (c : RawCursor) (s T : List ℕ) (a : Answer) where
+  pub raw-short : length T < 5 → a ≡ numbers 15 5 0 → rawCall c s T ≡ left a T
+  unfolding rawCall
+  raw-short h e = rw (lt-leb 5 (length T) h, e)
+
+  pub raw-told : (X : List ℕ) (r r′ : RawTurnAns) → 5 ≤ length T → rawTurnAns r ≡ rawTurn c s (c .at) → r ≡ r′ → rawShown T (rawTurnAns r′) ≡ left a X → rawCall c s T ≡ left a X
+  unfolding rawCall
+  raw-told X r r′ h d q e = rw (le-leb 5 (length T) h, sym d, q) e
+
+module _ (T : List ℕ) (a : Answer) where
+  pub raw-at : (X : List ℕ) (t t′ : RawTurn) (b : ℕ) → t ≡ t′ → rawShown T (done t′ b) ≡ left a X → rawShown T (done t b) ≡ left a X
+  raw-at X t t′ b q h = rw q h
+
+  pub raw-item : (X : List ℕ) (i : HandedRaw) (b : ℕ) → X ≡ rawLaid T (i .rest) (i .range) → a ≡ numbers 0 1 b → rawShown T (done (RawTurn.Item i) b) ≡ left a X
+  unfolding rawShown
+  raw-item X i b h e = rw (h, e)
+
+  pub raw-end : (b : ℕ) → a ≡ numbers 0 0 b → rawShown T (done RawTurn.End b) ≡ left a T
+  unfolding rawShown
+  raw-end b e = rw e
+
+  pub raw-need : (n : ℕ) → a ≡ numbers 2 n 0 → rawShown T (need n) ≡ left a T
+  unfolding rawShown
+  raw-need n e = rw e
+
+  pub raw-hickup : (n : ℕ) → a ≡ numbers 3 n 0 → rawShown T (hickup n) ≡ left a T
+  unfolding rawShown
+  raw-hickup n e = rw e
 
 module _ (words : List ℕ) (c : SignalCursor) (s T : List ℕ) (a : Answer) where
   pub signal-short : length T < 23 → a ≡ numbers 15 23 0 → signalCall words c s T ≡ left a T
@@ -231,4 +266,4 @@ module _ (f s T X : List ℕ) (n at used : ℕ) (r : Indexed) (k m : ℕ) where
   unfolding indexCall indexShown
   index-told e p q = rw (e, p, q)
 
-pub ruleset calls = (index-told, message-short, message-bad, message-good, dropped-done, dropped-need, item-done, item-need, item-hickup, item-broken, order-at, body-dropped, body-kept, heads-done, heads-need, heads-hickup, argument-short, argument-told, turn-at, turn-item, turn-end, turn-need, turn-hickup, signal-short, signal-told, signal-at, signal-item, signal-end, signal-hickup, found-at, found-none, consume-told, consume-need, consume-hickup, count-some, count-none, construct-done, construct-hickup)
+pub ruleset calls = (index-told, message-short, message-bad, message-good, dropped-done, dropped-need, item-done, item-need, item-hickup, item-broken, order-at, body-dropped, body-kept, heads-done, heads-need, heads-hickup, argument-short, argument-told, turn-at, turn-item, turn-end, turn-need, turn-hickup, raw-short, raw-told, raw-at, raw-item, raw-end, raw-need, raw-hickup, signal-short, signal-told, signal-at, signal-item, signal-end, signal-hickup, found-at, found-none, consume-told, consume-need, consume-hickup, count-some, count-none, construct-done, construct-hickup)

@@ -1,8 +1,7 @@
 -- What is answered of a message that was told at a glance (crate outline), by what its payload reads as, and what is left in the lent slice.
 use Prim.Native.Nat.{ℕ, _+_, _-_}
 use mathlib.Core.List.{List}
-use Rattle.wire.specs.Answer.{Ans}
-use Rattle.wire.specs.Answer.Ans.{done, need, hickup, broken}
+use Rattle.wire.specs.Answer.{Ans, numbered}
 use Rattle.headertype.specs.Bits.{flag}
 use Rattle.headertype.specs.HeaderType.{allHeaders}
 use Rattle.payload.specs.Payload.{payload}
@@ -12,13 +11,10 @@ use Rattle.outline.specs.There.{extendedPlace, extendedIf}
 use Rattle.outline.specs.declared.Outline.{Outline}
 use Rattle.numbers.specs.Layout.{messageLaid}
 use Rattle.numbers.specs.Outlined.{outlinedLaid}
-use Rattle.exports.specs.Calls.{Outcome, told}
+use Rattle.exports.specs.Calls.{Outcome, told, shownIn}
 
 unfoldable pub outlinedShown : List ℕ → List ℕ → Outline → Ans PayloadContent → Outcome
-outlinedShown T s o (done p b) = told 0 0 b (outlinedLaid T s o p)
-outlinedShown T s o (need n) = told 2 n 0 T
-outlinedShown T s o (hickup r) = told 3 r 0 T
-outlinedShown T s o broken = told 4 0 0 T
+outlinedShown T s o x = shownIn (λ p. 0) (outlinedLaid T s o) T (numbered x)
 
 -- the payload behind all headers
 unfoldable pub outlinedPayload : List ℕ → Outline → Ans PayloadContent

@@ -65,7 +65,7 @@ module _ {A : Type 0} (form : Form A) (sound : Sound form) (f : List ℕ) (filte
       room : st .used + length (out .entries) ≤ form .holds (length T)
       room = omega (arith, counts (asked f filter) (walked (asked f filter) n (form .holds (length T) - st .used) (st .at) s) .1)
 
-      fits : form .width * (st .used + length (out .entries)) ≤ length T
+      pub fits : form .width * (st .used + length (out .entries)) ≤ length T
       fits =
           omega (
             arith,
@@ -73,7 +73,7 @@ module _ {A : Type 0} (form : Form A) (sound : Sound form) (f : List ℕ) (filte
             sound .fits (length T),
           )
 
-      wide : form .width * (st .used + length (out .entries)) ≡ form .width * st .used + length written
+      pub wide : form .width * (st .used + length (out .entries)) ≡ form .width * st .used + length written
       wide = omega (arith, flat-length (form .width) (form .cells) (sound .wide) (out .entries), mul-add (form .width) (st .used) (length (out .entries)))
 
       as-long : length (over T (form .width * st .used) written) ≡ length T

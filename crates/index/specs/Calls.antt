@@ -1,7 +1,8 @@
 -- Calls one after another: what demand 3 says, and what it says of calls that stop after so many entries.
-use Prim.Native.Nat.{ℕ, zero, suc, _+_, _-_, _<_}
+use Prim.Native.Nat.{ℕ, zero, suc, _+_, _-_, _*_, _<_}
+use mathlib.Core.Path.{_≡_}
 use mathlib.Core.List.{List, [], _∷_, _++_}
-use lib.ListN.{getD, drop}
+use lib.ListN.{length, getD, take, drop}
 use Rattle.index.specs.Index.{Form, Outcome, call}
 use Rattle.index.specs.declared.State.{State}
 use Rattle.index.specs.declared.End.{End}
@@ -67,6 +68,11 @@ Above (n ∷ ns) = (0 < n) × Above ns
 abbrev pub total : List ℕ → ℕ
 total [] = 0
 total (n ∷ ns) = n + total ns
+
+-- two tables of one length with the same first n entries, whatever stands behind them
+pub record SameEntries {A : Type 0} (form : Form A) (n : ℕ) (T U : List A) : Type 0 where
+  pub as-long : length U ≡ length T
+  pub entries : take (form .width * n) U ≡ take (form .width * n) T
 
 -- bytes skipped and lengths over the first n entries of a flat table
 unfoldable pub totals : ℕ → List ℕ → ℕ

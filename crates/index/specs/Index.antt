@@ -5,6 +5,7 @@ use mathlib.Core.Path.{_≡_}
 use mathlib.Core.List.{List, [], _∷_}
 use lib.ListN.{length}
 use lib.Dec.{ltb}
+use Rattle.wire.specs.Answer.{Carried, Numbered, badFilter, carriedNumber}
 use Rattle.wire.specs.Parser.{pick}
 use Rattle.filter.specs.Filter.{filterOf}
 use Rattle.filter.specs.declared.Filter.{Filter}
@@ -35,22 +36,21 @@ pub record Sound {A : Type 0} (form : Form A) : Type 0 where
 abbrev pub flatForm : Form ℕ
 flatForm = record { width = 4; cells = λ e. e .start ∷ e .skipped ∷ e .len ∷ e .info ∷ []; holds = λ n. n / 4 }
 
--- document 01's numbers of the answers, and what they carry besides the state
+-- document 01's number of each answer, and what it carries besides the state: waits (done) the need
+abbrev pub numberedEnd : End → Numbered Unit
+numberedEnd End.BadFilter = badFilter
+numberedEnd End.BadState = record { number = 5; carries = Carried.nothing }
+numberedEnd End.TooLong = record { number = 6; carries = Carried.nothing }
+numberedEnd End.Full = record { number = 7; carries = Carried.nothing }
+numberedEnd End.Paused = record { number = 8; carries = Carried.nothing }
+numberedEnd (End.Waits need) = record { number = 0; carries = Carried.need need }
+
+-- as two numbers
 abbrev pub numberOf : End → ℕ
-numberOf End.BadFilter = 1
-numberOf End.BadState = 5
-numberOf End.TooLong = 6
-numberOf End.Full = 7
-numberOf End.Paused = 8
-numberOf (End.Waits need) = 0
+numberOf e = numberedEnd e .number
 
 abbrev pub needOf : End → ℕ
-needOf End.BadFilter = 0
-needOf End.BadState = 0
-needOf End.TooLong = 0
-needOf End.Full = 0
-needOf End.Paused = 0
-needOf (End.Waits need) = need
+needOf e = carriedNumber (λ u. 0) (numberedEnd e .carries)
 
 -- the call's answer for the walk's
 abbrev pub endOf : Ends ℕ → End

@@ -7,6 +7,8 @@ use native.Mathlib.Omega.{arith}
 use lib.ListN.{length, length-append}
 use borrow.Author.Tests.{le-leb, lt-leb}
 use Rattle.table.specs.Over.{over}
+use Rattle.wire.specs.declared.Range.{Range}
+use Rattle.cursor.specs.declared.RawCursor.{RawCursor}
 use Rattle.headertype.specs.declared.OptRange.{OptRange}
 use Rattle.dlt.specs.declared.Argument.{Argument}
 use Rattle.dlt.specs.declared.FixedPoint.{FixedPoint}
@@ -16,6 +18,7 @@ use Rattle.dlt.specs.declared.TypeInfoKind.{TypeInfoKind}
 use Rattle.dlt.specs.declared.Value.{Value}
 use Rattle.numbers.specs.Layout.{oneIf, rangeNumbers}
 use Rattle.numbers.specs.Arguments.{kindNumber, kindBits, codingNumber, valueNumber, valueFirst, valueSecond, offsetWidth, offsetBits, kindNumbers, codingNumbers, pointNumbers, valueNumbers, typeNumbers, nameNumbers, contentNumbers, argumentNumbers, argumentLaid}
+use Rattle.numbers.specs.Raw.{rawNumbers, rawLaid}
 use Rattle.numbers.proofs.Rows.{joined, three-groups, ranges}
 
 -- ---- where calls gave the numbers: x, y and z
@@ -102,4 +105,14 @@ module _ (T X : List ℕ) (at left : ℕ) (big : Bool) (a : Argument) where
   unfolding argumentLaid
   argument-short h = rw (lt-leb 23 (length T) h)
 
-pub ruleset groups = (kind-row, coding-row, point-row, value-row, no-point, names-row, type-row, content-row, handed-row, argument-fits, argument-short)
+-- a raw value; x is what `flag` gave
+module _ (T X : List ℕ) (c : RawCursor) (r : Range) where
+  pub raw-fits : (x : ℕ) → 5 ≤ length T → x ≡ oneIf (c .big) → X ≡ over T 0 (c .at ∷ c .left ∷ x ∷ r .start ∷ r .len ∷ []) → X ≡ rawLaid T c r
+  unfolding rawLaid rawNumbers
+  raw-fits x h e p = p ∙ rw (e, le-leb 5 (length T) h)
+
+  pub raw-short : length T < 5 → T ≡ rawLaid T c r
+  unfolding rawLaid
+  raw-short h = rw (lt-leb 5 (length T) h)
+
+pub ruleset groups = (raw-fits, raw-short, kind-row, coding-row, point-row, value-row, no-point, names-row, type-row, content-row, handed-row, argument-fits, argument-short)

@@ -1,3 +1,4 @@
 pub mod Layout
 pub mod Outlined
 pub mod Arguments
+pub mod Raw

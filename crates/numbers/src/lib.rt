@@ -1,5 +1,5 @@
-// Messages and arguments as numbers in a lent slice, for hosts that take no enum and no struct. specs/Layout.antt and specs/Arguments.antt have
-// the layout, number by number.
+// Messages, arguments and raw values as numbers in a lent slice, for hosts that take no enum and no struct. specs/Layout.antt, specs/Arguments.antt and
+// specs/Raw.antt have the layout, number by number.
 ghost use mathlib.Core.Path.{_≡_};
 ghost use mathlib.Core.List.{[], _∷_};
 ghost use mathlib.Core.Bool.{true};
@@ -18,6 +18,8 @@ ghost use Rattle.parse.specs.declared.ParsedMessage.{ParsedMessage};
 ghost use Rattle.numbers.specs.Layout.{oneIf, orderNumber, rangeNumbers, numNumbers, storageNumbers, frontNumbers, standardNumbers, extendedNumbers, payloadNumbers, leadNumbers, messageLaid};
 ghost use Rattle.numbers.specs.Outlined.{outlinedLaid};
 ghost use Rattle.numbers.specs.Arguments.{signedBits, lengthBits, widthBits, kindNumber, kindBits, codingNumber, valueNumber, valueFirst, valueSecond, offsetWidth, offsetBits, kindNumbers, codingNumbers, pointNumbers, valueNumbers, typeNumbers, nameNumbers, contentNumbers, argumentNumbers, argumentLaid};
+ghost use Rattle.numbers.specs.Raw.{rawLaid};
+use cursor::RawCursor;
 use dlt::Argument;
 use dlt::FixedPointValue;
 use dlt::FloatWidth;
@@ -883,5 +885,23 @@ pub fn put_argument(out: &mut [u64], at: usize, left: usize, big: bool, a: Argum
 {
     if 23 <= out.len() {
         put_handed(out, at, left, big, a);
+    }
+}
+
+// The numbers of a raw value of a network trace and of the cursor behind it, likewise.
+pub fn put_raw(out: &mut [u64], rest: RawCursor, value: Range)
+    ensures { λ _. ⌜ now (out .exit) ≡ rawLaid (now (out .entry)) rest value ⌝ }
+{
+    if 5 <= out.len() {
+        let order = flag(rest.big);
+        put5(
+            out,
+            0,
+            rest.at as u64,
+            rest.left as u64,
+            order,
+            value.start as u64,
+            value.len as u64,
+        );
     }
 }

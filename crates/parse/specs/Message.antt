@@ -4,7 +4,8 @@ use mathlib.Core.Bool.{Bool, true, false}
 use mathlib.Core.List.{List}
 use lib.ListN.{length}
 use lib.Dec.{leb}
-use Rattle.wire.specs.Answer.{Ans, Parser}
+use Rattle.wire.specs.Answer.{Ans, Parser, Numbered, numbered}
+use Rattle.wire.specs.Answer as wire
 use Rattle.wire.specs.Answer.Ans.{done, need, hickup, broken}
 use Rattle.wire.specs.Parser.{pick, ret, here, choose, lacking, _>>=_}
 use Rattle.wire.specs.Run.{bytes}
@@ -121,7 +122,12 @@ judged f stored s FilterAns.Bad = Answer.badFilter
 unfoldable pub messageOf : List ℕ → Bool → List ℕ → Answer
 messageOf f stored s = judged f stored s (filterOf f)
 
--- document 01's number and values of each case
+-- document 01's number of each answer, and what it carries
+abbrev pub numberedMessage : Answer → Numbered ParsedMessage
+numberedMessage Answer.badFilter = wire.badFilter
+numberedMessage (Answer.answered x) = numbered x
+
+-- the answer that each case of the enum stands for
 abbrev pub messageAns : MessageAns → Answer
 messageAns MessageAns.BadFilter = Answer.badFilter
 messageAns (MessageAns.Done g) = Answer.answered (done (g .v) (g .next))

@@ -14,10 +14,11 @@ use mathlib.Core.List.{List, [], _∷_}
 use lib.ListN.{length, getD, take, drop, length-drop}
 use lib.Seq.{drop-cons, take-all}
 use borrow.Author.Tests.{lt-ltb, le-ltb}
-use Rattle.wire.specs.Answer.{Ans, Parser}
+use Rattle.wire.specs.Answer.{Ans, Parser, numbered}
 use Rattle.wire.specs.Answer.Ans.{done, need, hickup, broken}
 use Rattle.wire.specs.Parser.{_>>=_, ret, follow}
 use Rattle.wire.specs.Lawful.{Waits}
+use Rattle.wire.proofs.Laws.{of-two}
 use Rattle.wire.proofs.Step.{choose-true, choose-false, ret-is}
 use Rattle.dlt.specs.TypeInfoWord.{typeInfoOf}
 use Rattle.dlt.specs.declared.Decoded.{Decoded}
@@ -143,6 +144,9 @@ unfolding signals ret
 signals-quiet big [] = λ s at w. w
 signals-quiet big (word ∷ words) = then-quiet (signal big word) (λ a. signals big words) (signal-quiet big word) (λ a. signals-quiet big words)
 
-pub never-waits : (big : Bool) (words s : List ℕ) (at : ℕ) → Waits (constructed big words s at) → ⊥
+constructed-quiet : (big : Bool) (words : List ℕ) → Quiet (constructed big words)
 unfolding constructed ret
-never-waits big words = then-quiet (signals big words) (λ u. ret (length words)) (signals-quiet big words) (λ u s at w. w)
+constructed-quiet big words = then-quiet (signals big words) (λ u. ret (length words)) (signals-quiet big words) (λ u s at w. w)
+
+pub never-waits : (big : Bool) (words s : List ℕ) (at : ℕ) → numbered (constructed big words s at) .number ≡ 2 → ⊥
+never-waits big words s at e = constructed-quiet big words s at (of-two (constructed big words s at) e)

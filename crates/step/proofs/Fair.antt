@@ -6,9 +6,10 @@ use mathlib.Core.Bool.{true}
 use mathlib.Core.List.{List, _++_}
 use lib.ListN.{length}
 use lib.Dec.{lit<}
-use Rattle.wire.specs.Answer.{Ans}
+use Rattle.wire.specs.Answer.{Ans, numbered}
 use Rattle.wire.specs.Answer.Ans.{done, need, hickup, broken}
 use Rattle.wire.specs.Lawful.{Waits, Kept}
+use Rattle.wire.proofs.Laws.{of-two}
 use Rattle.wire.proofs.Step.{then-need}
 use Rattle.mark.specs.First.{pattern, find}
 use Rattle.mark.specs.declared.Found.{Found}
@@ -60,7 +61,7 @@ module _ (f : List ℕ) (filter : Filter) (s : List ℕ) where
       let a : find pattern (s ++ t) 0 ≡ find pattern s 0 = find-stable pattern s t 0 _ (lit< tt) p ∙ sym p in
       let b : routed f filter true (s ++ t) 0 ≡ routed f filter true s 0 =
       read-again t (routed f filter true s 0) refl w (routed-law f filter true .kept s t 0 zero-le) in
-      let c : message f filter true (s ++ t) 0 ≡ message f filter true s 0 = message-stable f filter true s t w in
+      let c : message f filter true (s ++ t) 0 ≡ message f filter true s 0 = message-stable f filter true s t (λ e. w (of-two (message f filter true s 0) e)) in
       rw (a, b, c)
 
   -- item and filtered: every declared byte is there
@@ -121,4 +122,5 @@ fair f filter = record {
 pub patient : (f : List ℕ) (filter : Filter) (s t : List ℕ) (n : ℕ) → asked f filter s ≡ Wait n → length t < n → (u : ℕ) × (asked f filter (s ++ t) ≡ Wait u)
 unfolding asked
 patient f filter s t n e few =
-    waits f filter s (message f filter true (s ++ t) 0) _ _ (message-honest f filter true s t n (waiting f filter s _ _ (message f filter true s 0) e) few)
+    let more = message f filter true (s ++ t) 0 in
+    waits f filter s more _ _ (of-two more (message-honest f filter true s t n (ap numbered (waiting f filter s _ _ (message f filter true s 0) e)) few))

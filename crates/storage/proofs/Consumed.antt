@@ -8,12 +8,12 @@ use mathlib.Core.List.{List, [], _∷_, _++_}
 use lib.ListN.{length, getD, length-append, List·getD-append}
 use lib.Dec.{leb, eqb}
 use borrow.Author.Tests.{le-leb, leb-true, leb-false}
-use Rattle.wire.specs.Answer.{Ans, Parser}
+use Rattle.wire.specs.Answer.{Ans, Parser, numbered}
 use Rattle.wire.specs.Answer.Ans.{done, need, hickup, broken}
 use Rattle.wire.specs.Parser.{pick, follow, _>>=_, asking, having, fixed, ret, here, lacking}
 use Rattle.wire.specs.Lawful.{Lawful, Kept, Within, Waits, Stable, Honest}
 use Rattle.wire.specs.Run.{bytes, range}
-use Rattle.wire.proofs.Laws.{ret-law, here-law}
+use Rattle.wire.proofs.Laws.{ret-law, here-law, is-two}
 use Rattle.wire.proofs.Runs.{bytes-law}
 use Rattle.headertype.specs.HeaderType.{overallLength, allHeaders, headerTypeByte}
 use Rattle.headertype.specs.declared.StandardHeader.{StandardHeader}
@@ -148,12 +148,12 @@ begun : (s : List ℕ) → 0 < length s → consume s 0 ≡ (skip >>= (λ lead. 
 unfolding consume
 begun s h = rw (le-leb 1 (length s - 0) (omega arith))
 
-pub consume-stable : (s t : List ℕ) → 0 < length s → (Waits (consume s 0) → ⊥) → consume (s ++ t) 0 ≡ consume s 0
+pub consume-stable : (s t : List ℕ) → 0 < length s → (numbered (consume s 0) .number ≡ 2 → ⊥) → consume (s ++ t) 0 ≡ consume s 0
 consume-stable s t h w =
     let l : length (s ++ t) ≡ length s + length t = length-append s t in
     let e : consume s 0 ≡ (skip >>= (λ lead. whole)) s 0 = begun s h in
     begun (s ++ t) (omega arith)
-    ∙ stays-same _ _ (message-settled .stays s t 0 zero-le) (λ v. w (rw e v))
+    ∙ stays-same _ _ (message-settled .stays s t 0 zero-le) (λ v. w (is-two (consume s 0) (rw e v)))
     ∙ sym e
 
 -- and a value ends within the bytes
@@ -162,7 +162,7 @@ consume-within s h = rw (begun s h) (message-settled .ends s 0 zero-le)
 
 -- `skip_storage_header` alone
 pub skip-stable : Stable skip
-skip-stable s t w = stays-same _ _ (skip-settled .stays s t 0 zero-le) w
+skip-stable s t w = stays-same _ _ (skip-settled .stays s t 0 zero-le) (λ v. w (is-two (skip s 0) v))
 
 -- ---- what does not: `44` needs 2, and one byte more, `44 58`, is Hickup 4
 pub one-letter : consume (0x44 ∷ []) 0 ≡ need 2
@@ -174,7 +174,9 @@ unfolding consume _>>=_ skip tagged
 other-letter = refl
 
 pub consume-not-honest : Honest consume → ⊥
-consume-not-honest h = subst Waits other-letter (h (0x44 ∷ []) (0x58 ∷ []) 2 one-letter (omega arith))
+consume-not-honest h =
+    let three : _≡_ {A = ℕ} 3 2 = sym (ap (λ (x : Ans OptCount). numbered x .number) other-letter) ∙ h (0x44 ∷ []) (0x58 ∷ []) 2 (ap numbered one-letter) (omega arith) in
+    omega (arith, three)
 
 -- and empty input is done, though a byte more is not
 pub consume-of-nothing : consume [] 0 ≡ done OptCount.Absent 0

@@ -36,6 +36,11 @@ module _ {A : Type 0} (l : List A) (a : ℕ) where
     unfolding over
     over-behind = rw (← append-assoc (take a l) v (drop (a + length v) l)) (drop-at (take a l ++ v) (drop (a + length v) l) (a + length v) head)
 
+    -- up to their end it is what stood before the place, and the new elements
+    pub over-upto : take (a + length v) (over l a v) ≡ take a l ++ v
+    unfolding over
+    over-upto = rw (← append-assoc (take a l) v (drop (a + length v) l)) (take-at (take a l ++ v) (drop (a + length v) l) (a + length v) head)
+
     -- stores one after the other, as the code leaves them
     pub stores : sets l a v ≡ over l a v
     unfolding over

@@ -1,9 +1,10 @@
 //! compare KIND COUNT SEED [THREADS]: makes requests by seed as `oracle/compare` does, asks the crate and the archive in this process, and counts the
-//! answers that differ. KIND is msg, consume, fwd, args, index, limited (index with a limit) or all. With threads, each has a seed of its own: SEED, SEED + 1, ..
+//! answers that differ. KIND is msg, consume, fwd, args, index, limited (index with a limit), net (msg of
+//! network traces) or all. With threads, each has a seed of its own: SEED, SEED + 1, ..
 
 use std::time::Instant;
 
-const KINDS: [&str; 6] = ["msg", "consume", "fwd", "args", "index", "limited"];
+const KINDS: [&str; 7] = ["msg", "consume", "fwd", "args", "index", "limited", "net"];
 
 struct Count {
     asked: u64,

@@ -2,7 +2,7 @@
 
 use super::build::{
     argument, damage, declare, every_word, filter, filter_field, filter_or_none, headers, junk, message, message_with,
-    number, storage_header, stored_message, FLOATS32, FLOATS64, GOOD_KINDS, IDS,
+    number, random_word, storage_header, stored_message, FLOATS32, FLOATS64, GOOD_KINDS, IDS,
 };
 use super::random::Rng;
 use super::strings::BOUNDARY;
@@ -25,6 +25,10 @@ pub const SECTIONS: &[Section] = &[
     levels,
     long_messages,
 ];
+
+/// Verbose network traces alone.
+pub const TRACES_TINY: &[Section] = &[every_pair_of_kinds];
+pub const TRACES: &[Section] = &[every_pair_of_kinds, network_traces];
 
 fn request(storage: bool, filter: &[u8], bytes: &[u8]) -> String {
     format!("msg {} {} {}", u8::from(storage), hex(filter), hex(bytes))
@@ -175,6 +179,19 @@ fn network_traces(rng: &mut Rng, emit: Emit) {
     }
 }
 
+/// A raw value before and behind an argument of every kind, and one of every kind before and behind a raw value.
+fn every_pair_of_kinds(rng: &mut Rng, emit: Emit) {
+    for kind in GOOD_KINDS {
+        for flags in [0x21, 0x23] {
+            for words in [vec![kind], vec![kind, 0x400], vec![0x400, kind], vec![0xc00, kind, 0x400], vec![kind, 0x400, kind]] {
+                let bytes = message_with(rng, flags, 0x15, &words);
+                emit(&plain(&bytes));
+                emit(&request(true, &[], &[storage_header(rng), bytes].concat()));
+            }
+        }
+    }
+}
+
 /// Junk of every length before the pattern, cut at some places.
 fn storage_places(rng: &mut Rng, emit: Emit) {
     for length in 0..24 {
@@ -283,5 +300,22 @@ pub fn random(rng: &mut Rng) -> String {
     if rng.one_in(3) {
         bytes.extend(rng.bytes(6));
     }
+    request(storage, &filter, &bytes)
+}
+
+/// A verbose network trace of up to eight arguments of any kinds, half of them raw; two thirds are sound.
+pub fn random_trace(rng: &mut Rng) -> String {
+    let storage = rng.one_in(2);
+    let words: Vec<u32> = (0..rng.below(9)).map(|_| if rng.one_in(2) { rng.pick(&[0x400, 0xc00]) } else { random_word(rng) }).collect();
+    let flags = rng.byte() | 1;
+    let info = rng.byte() & 0xf0 | 5;
+    let mut bytes = message_with(rng, flags, info, &words);
+    if storage {
+        bytes = [junk(rng, 8), storage_header(rng), bytes].concat();
+    }
+    if rng.one_in(3) {
+        damage(rng, &mut bytes);
+    }
+    let filter = if rng.one_in(8) { filter(rng) } else { Vec::new() };
     request(storage, &filter, &bytes)
 }
