@@ -1,7 +1,11 @@
 /* Calls on numbers and byte slices. Each is proved to end on every input, to do nothing undefined, and to give exactly the answer that
    crates/exports/specs/Calls.antt says; what each number of a lent slice is, is defined in crates/numbers/specs (Layout.antt, Arguments.antt).
-   The places below are read by host/build.rs too: a Rust host has them from here. A slice is a pointer and a length, and a slice of length 0 needs a
-   pointer that is not null. Nothing is kept after a call, nothing is allocated, and calls may run on any number of threads. */
+   The places below are read by host/build.rs too: a Rust host has them from here.
+
+   A slice is a pointer and a length in elements. What the proofs take for granted is the caller's to see to: the elements are there and stay there for the
+   call; a slice of uint64_t is aligned to 8 bytes, one of uint32_t to 4; and `out` and `table`, which are written, overlap no other slice of the call
+   (slices that are only read may overlap each other). With length 0 the pointer is not followed and may be NULL, for no filter say (host/c/empty.c tries
+   it of each call). Nothing is kept after a call, nothing is allocated, and calls may run on any number of threads. */
 #ifndef DLT_H
 #define DLT_H
 
