@@ -120,10 +120,10 @@ unfolding sequence among formed
 letter-a = more 1 (omega arith) refl empty
 
 pub first-example : IdentifierOf first-field (0x41 ∷ []) × (hasMore first-field (0x41 ∷ []) ≡ true)
-first-example = (record { front = refl; valid = letter-a; longest = λ k h v. h }, refl)
+first-example = (record { front = refl; valid = letter-a; longest = λ k h v. omega arith }, refl)
 
 pub second-example : IdentifierOf second-field (0x41 ∷ []) × (hasMore second-field (0x41 ∷ []) ≡ true)
-second-example = (record { front = refl; valid = letter-a; longest = λ k h v. h }, refl)
+second-example = (record { front = refl; valid = letter-a; longest = λ k h v. omega arith }, refl)
 
 pub third-example : IdentifierOf third-field (0x41 ∷ []) × (hasMore third-field (0x41 ∷ []) ≡ true)
 unfolding validUpTo upTo sequence among formed

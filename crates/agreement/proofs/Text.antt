@@ -100,7 +100,8 @@ module _ (n : ℕ) (s : List ℕ) (at : ℕ) where
             rw id-length
             (valid-moved s (take kept (drop at s)) 0 id-same (subst (ValidUtf8 s at) (sym kept-is) (prefix-valid size s at)));
         longest = λ k h v.
-            let l : k ≤ validUpTo size s at = prefix-longest size s h (valid-moved (beforeZero field) s at (part-same k h) v) in
+            let b : k ≤ size = omega arith in
+            let l : k ≤ validUpTo size s at = prefix-longest size s b (valid-moved (beforeZero field) s at (part-same k b) v) in
             omega (arith, kept-is, id-length);
       }
 
