@@ -1,6 +1,6 @@
 -- Two different fields of four bytes may give one identifier: just where one of them has a byte other than zero behind it.
 -- Assumes nothing.
-use Prim.Native.Nat.{ℕ, zero, suc, _-_, _≤_}
+use Prim.Native.Nat.{ℕ, zero, suc, _+_, _-_, _≤_}
 use native.Mathlib.Omega.{arith}
 use mathlib.Core.Logic.{_↔_}
 use mathlib.Core.Path.{_≡_, refl, sym, ap, ap₂, _∙_}
@@ -15,8 +15,13 @@ use Rattle.headertype.specs.Bits.{either}
 use Rattle.strings.specs.Utf8.{sequence, among, formed, upTo, validUpTo, ValidUtf8}
 use Rattle.strings.specs.Utf8.ValidUtf8.{empty, more}
 use Rattle.strings.proofs.Longest.{prefix-longest}
+use Rattle.protocol.specs.Fields.{Field, width, offset, fieldBytes}
 use Rattle.agreement.specs.Identifier.{beforeZero, IdentifierOf, padded, nonzero, hasMore, SharesPadded}
 use Rattle.agreement.proofs.Text.{id-front}
+
+-- a field of width four that stands in the bytes has four bytes
+pub field-four : (f : Field) (htyp : ℕ) (s : List ℕ) (at : ℕ) → width f ≡ 4 → at + offset htyp f + 4 ≤ length s → length (fieldBytes f htyp s at) ≡ 4
+field-four f htyp s at w h = omega (arith, length-take (width f) (drop (at + offset htyp f) s), length-drop (at + offset htyp f) s)
 
 -- ---- zero bytes behind an identifier
 no-part : (m : ℕ) → beforeZero (replicate m 0) ≡ []
