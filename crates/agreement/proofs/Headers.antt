@@ -21,14 +21,17 @@ use Rattle.headertype.specs.declared.StandardHeader.{StandardHeader}
 use Rattle.messageinfo.specs.declared.ExtendedHeader.{ExtendedHeader}
 use Rattle.headers.specs.Standard.{maybeId, maybeNumber, endianOf, headerOf, flagged, standard}
 use Rattle.headers.specs.Extended.{extendedOf, named, extended}
-use Rattle.protocol.specs.Fields.{UEH, WEID, WSID, WTMS, Field, offset, headers, bigEndian, fieldNumber}
+use Rattle.protocol.specs.Fields.{UEH, WEID, WSID, WTMS, Field, width, offset, headers, bigEndian, fieldNumber}
+use Rattle.protocol.specs.Msin.{VERB}
 use Rattle.protocol.proofs.Lengths.{headers-length}
-use Rattle.agreement.specs.Agree.{htypOf, numberField, idField, StandardAgrees, ExtendedAgrees}
+use Rattle.protocol.proofs.Names.{type-read, subtype-read}
+use Rattle.agreement.specs.Agree.{htypOf, numberField, IdField, MaybeIdField, StandardAgrees, ExtendedAgrees}
+use Rattle.agreement.proofs.Text.{text-identifier, text-inside}
 use Rattle.headers.proofs.Inverse as inverse
 use Rattle.headers.proofs.Inverse.{Split, split, of-ret, of-refuse, of-id, of-maybe-id}
 
 -- the number of w bytes, as the protocol has it
-big-number : (w : ℕ) (s : List ℕ) (at : ℕ) → numberOf true w s at ≡ bigEndian w s at
+pub big-number : (w : ℕ) (s : List ℕ) (at : ℕ) → numberOf true w s at ≡ bigEndian w s at
 unfolding numberOf
 big-number w s at = digits-big w w s at
   where
@@ -45,8 +48,19 @@ of-maybe-number t s at e =
     let r = inverse.of-maybe-number t s at e in
     (r .0 ∙ ap (λ (v : ℕ). pick t (OptNum.Present v) OptNum.Absent) (big-number 4 s at), r .1)
 
-one-byte : (s : List ℕ) (at : ℕ) → bigEndian 1 s at ≡ getD s at 0
+pub one-byte : (s : List ℕ) (at : ℕ) → bigEndian 1 s at ≡ getD s at 0
 one-byte s at = rw add-zero (omega arith)
+
+-- the text of a field's four bytes is its identifier
+id-field : (f : Field) (s : List ℕ) (at : ℕ) → width f ≡ 4 → IdField f s at (textOf 4 s (at + offset (htypOf s at) f))
+unfolding textOf
+id-field f s at w =
+    let place = at + offset (htypOf s at) f in
+    record { starts = refl; inside = text-inside 4 s place; bytes = rw w (text-identifier 4 s place) }
+
+maybe-id-field : (s : List ℕ) (at : ℕ) (t : Bool) → WEID (htypOf s at) ≡ t → MaybeIdField Field.ECU s at (pick t (OptRange.Present (textOf 4 s (at + 4))) OptRange.Absent)
+maybe-id-field s at true e = (e, id-field Field.ECU s at refl)
+maybe-id-field s at false e = e
 
 -- the fields in a row, each behind those before it that are there
 module _ (s : List ℕ) (at : ℕ) (byte : htypOf s at < 256) where
@@ -76,7 +90,7 @@ module _ (s : List ℕ) (at : ℕ) (byte : htypOf s at < 256) where
         ueh = rw t;
         mcnt = c;
         len = rw (t, l, headers-length (htypOf s at) byte);
-        ecu = e;
+        ecu = subst (MaybeIdField Field.ECU s at) (sym e) (maybe-id-field s at (WEID (htypOf s at)) refl);
         seid = n ∙ ap (λ (k : ℕ). pick (WSID (htypOf s at)) (OptNum.Present (bigEndian 4 s k)) OptNum.Absent) p;
         tmsp = m ∙ ap (λ (k : ℕ). pick (WTMS (htypOf s at)) (OptNum.Present (bigEndian 4 s k)) OptNum.Absent) q;
         ends = z ∙ omega arith;
@@ -150,10 +164,12 @@ module _ (s : List ℕ) (at : ℕ) (byte : htypOf s at < 256) where
       let m3 : r3 .mid ≡ at + offset (htypOf s at) Field.CTID = i3 .1 ∙ ap (λ (k : ℕ). k + 4) m2 ∙ omega arith in
       let m4 : r4 .mid ≡ at + headers (htypOf s at) = i4 .1 ∙ ap (λ (k : ℕ). k + 4) m3 ∙ omega arith in
       rw (o .0) (record {
-        verb = ap (flag 1) (i1 .0);
+        verb = ap VERB (i1 .0);
         msin = rw (i1 .0);
+        mstp = λ b. rw (i1 .0) (type-read _ b);
+        mtin = λ b. rw (i1 .0) (subtype-read _ b);
         noar = i2 .0 ∙ ap (bigEndian 1 s) m1;
-        apid = i3 .0 ∙ ap (textOf 4 s) m2;
-        ctid = i4 .0 ∙ ap (textOf 4 s) m3;
+        apid = subst (IdField Field.APID s at) (sym (i3 .0 ∙ ap (textOf 4 s) m2)) (id-field Field.APID s at refl);
+        ctid = subst (IdField Field.CTID s at) (sym (i4 .0 ∙ ap (textOf 4 s) m3)) (id-field Field.CTID s at refl);
         ends = o .1 ∙ m4;
       })

@@ -1,1 +1,3 @@
+pub mod Identifier
 pub mod Agree
+pub mod Read

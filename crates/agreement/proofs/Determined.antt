@@ -1,0 +1,73 @@
+-- The bytes determine the headers: what agrees with them is one range, and one header.
+use Prim.Native.Nat.{ℕ, _+_, _-_, _≤_}
+use native.Mathlib.Omega.{arith}
+use mathlib.Core.Path.{_≡_, refl, sym, ap, ap₂, _∙_}
+use mathlib.Core.Bool.{Bool, true, false}
+use mathlib.Core.List.{List}
+use lib.ListN.{length, take, drop, length-take, length-drop}
+use Rattle.wire.specs.Run.{range}
+use Rattle.wire.specs.declared.Range.{Range}
+use Rattle.headertype.specs.declared.OptRange.{OptRange}
+use Rattle.headertype.specs.declared.StandardHeader.{StandardHeader}
+use Rattle.messageinfo.specs.declared.ExtendedHeader.{ExtendedHeader}
+use Rattle.protocol.specs.Fields.{Field, fieldBytes}
+use Rattle.agreement.specs.Agree.{htypOf, IdField, MaybeIdField, StandardAgrees, ExtendedAgrees}
+use Rattle.agreement.proofs.Text.{one-identifier}
+
+module _ (f : Field) (s : List ℕ) (at : ℕ) where
+  id-length : (r : Range) → IdField f s at r → length (take (r .len) (drop (r .start) s)) ≡ r .len
+  id-length r i = omega (arith, i .inside, length-take (r .len) (drop (r .start) s), length-drop (r .start) s)
+
+  pub one-range : (r q : Range) → IdField f s at r → IdField f s at q → r ≡ q
+  one-range r q i j =
+      let same = one-identifier _ _ _ (i .bytes) (j .bytes) in
+      ap₂ range (i .starts ∙ sym (j .starts)) (sym (id-length r i) ∙ ap length same ∙ id-length q j)
+
+  one-maybe : (o p : OptRange) → MaybeIdField f s at o → MaybeIdField f s at p → o ≡ p
+  one-maybe (OptRange.Present r) (OptRange.Present q) i j = ap OptRange.Present (one-range r q (i .1) (j .1))
+  one-maybe (OptRange.Present r) OptRange.Absent i j =
+      let z : true ≡ false = sym (i .0) ∙ j in
+      let y : _≡_ {A = ℕ} 0 1 = cc in
+      absurd (omega arith)
+  one-maybe OptRange.Absent (OptRange.Present q) i j =
+      let z : true ≡ false = sym (j .0) ∙ i in
+      let y : _≡_ {A = ℕ} 0 1 = cc in
+      absurd (omega arith)
+  one-maybe OptRange.Absent OptRange.Absent i j = refl
+
+module _ (s : List ℕ) (at : ℕ) where
+  pub one-standard : (h g : StandardHeader) (m n : ℕ) → StandardAgrees s at h m → StandardAgrees s at g n → h ≡ g
+  one-standard h g m n a b =
+      let vers : h .version ≡ g .version = a .vers ∙ sym (b .vers) in
+      let msbf : h .endianness ≡ g .endianness = a .msbf ∙ sym (b .msbf) in
+      let ueh : h .«has_extended_header» ≡ g .«has_extended_header» = a .ueh ∙ sym (b .ueh) in
+      let mcnt : h .«message_counter» ≡ g .«message_counter» = a .mcnt ∙ sym (b .mcnt) in
+      let ecu : h .«ecu_id» ≡ g .«ecu_id» = one-maybe Field.ECU s at _ _ (a .ecu) (b .ecu) in
+      let seid : h .«session_id» ≡ g .«session_id» = a .seid ∙ sym (b .seid) in
+      let tmsp : h .timestamp ≡ g .timestamp = a .tmsp ∙ sym (b .tmsp) in
+      let len : h .«payload_length» ≡ g .«payload_length» = a .len ∙ sym (b .len) in
+      λ i. record {
+        version = vers i;
+        endianness = msbf i;
+        «has_extended_header» = ueh i;
+        «message_counter» = mcnt i;
+        «ecu_id» = ecu i;
+        «session_id» = seid i;
+        timestamp = tmsp i;
+        «payload_length» = len i;
+      }
+
+  pub one-extended : (x y : ExtendedHeader) (m n : ℕ) → ExtendedAgrees s at x m → ExtendedAgrees s at y n → x ≡ y
+  one-extended x y m n a b =
+      let verb : x .verbose ≡ y .verbose = a .verb ∙ sym (b .verb) in
+      let noar : x .«argument_count» ≡ y .«argument_count» = a .noar ∙ sym (b .noar) in
+      let msin : x .«message_type» ≡ y .«message_type» = a .msin ∙ sym (b .msin) in
+      let apid : x .«application_id» ≡ y .«application_id» = one-range Field.APID s at _ _ (a .apid) (b .apid) in
+      let ctid : x .«context_id» ≡ y .«context_id» = one-range Field.CTID s at _ _ (a .ctid) (b .ctid) in
+      λ i. record {
+        verbose = verb i;
+        «argument_count» = noar i;
+        «message_type» = msin i;
+        «application_id» = apid i;
+        «context_id» = ctid i;
+      }
