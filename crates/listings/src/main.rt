@@ -3,11 +3,13 @@
 // first30.dlt            document 01's first 30 bytes
 // empty.dlt              no bytes
 // full.dlt               a trace of one message more than the table holds
-// ascii-mode.dlt         a recording that was sent as text, each 0A turned into 0D 0A: bytes skipped, a hickup, and a wait in the middle
-// junk-between.dlt       the recording whole, with 1 to 59 random bytes after every third message: they are skipped
-// len-below-headers.dlt  the recording with message 12's declared length below that of its headers: a hickup, and what follows is found again
+// ascii-mode.dlt         a recording sent as text, each 0A turned into 0D 0A: bytes skipped, a hickup, and it waits in the middle
+// junk-between.dlt       the recording with 1 to 59 random bytes after every third message: they are skipped
+// len-below-headers.dlt  the recording with a message whose declared length is below its headers': a hickup, and the next is found again
 // over.dlt               one byte over the limit
 // missing.dlt            a file that isn't there
+//
+// The recording: the first 60 messages that `dlt-receive -o` wrote while a program logged arguments of every kind.
 use libc::STDOUT_FILENO;
 
 // The line above a listing.

@@ -31,7 +31,7 @@ use denote.Memory.{pointee, mem, shares, partAt}
 use denote.Plain.{uint-vals, uint-tells}
 use denote.Builtin.{usize, u8}
 use denote.Ref.{RefT}
-use denote.Slice.{sliceTy, sliceVal, MutSlice, ShrSlice, Room, finally, slice-vals, shr-slice-tells}
+use denote.Slice.{sliceTy, sliceVal, MutSlice, ShrSlice, Room, slice-vals, shr-slice-tells}
 use denote.Lend.{Held, lends-slice, slice-back}
 use denote.Index.{row, whole-out, whole-in}
 use denote.Array.{Array, arrayVal, array-vals, array-tells, array-lawful, array-makes}
@@ -64,7 +64,6 @@ use Rattle.entries.proofs.index_entries as call-of
 use Rattle.entries.proofs.index_entries.Symbol as call-def
 use Rattle.entries.proofs.index_entries.Symbol.{name as #entries·index-entries}
 use Rattle.entries.proofs.index_entries.Met as call-thm
-use Rattle.filled.specs.declared.Filled.{Filled}
 use Rattle.filled.proofs.Filled as F
 use Rattle.filled.proofs.Filled.Laws as F′
 use Rattle.filled.proofs.index_own.Key.{name as #filled·index-own}
