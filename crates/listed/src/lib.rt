@@ -1,8 +1,9 @@
 // The listing of a trace: what the program `listing` prints of its standard input, here of any file descriptor. At most 65,536 bytes, into 1,024
-// entries, with no filter. The buffer and the table stand on the stack.
+// entries, with no filter. The buffer and the table stand on the stack. The table is one of numbers or one of structs, and the listing is the same.
 ghost use mathlib.Core.Path.{_≡_};
 ghost use Prim.Native.Nat.{_+_, _≤_};
 ghost use lib.ListN.{length};
+use entries::Entry;
 use index::End;
 use index::Indexed;
 use index::State;
@@ -78,24 +79,36 @@ fn kind(k: u64) {
     io::write_all(STDOUT_FILENO, b"unrecoverable\n");
 }
 
-fn entry(e: &[u64]) {
-    if e.len() < 4 {
-        return;
-    }
-    number(e[0], b" ");
-    number(e[1], b" ");
-    number(e[2], b" ");
-    kind(e[3]);
+// The line of one entry.
+fn line(start: u64, skipped: u64, length: u64, k: u64) {
+    number(start, b" ");
+    number(skipped, b" ");
+    number(length, b" ");
+    kind(k);
 }
 
-// The lines of the first `used` entries.
-fn entries(table: &[u64], used: usize) {
+// The lines of the first `used` entries of a table of numbers.
+fn lines(table: &[u64], used: usize) {
     let mut i = 0;
     while i < used {
         if table.len() / 4 <= i {
             return;
         }
-        entry(&table[4 * i..4 * i + 4]);
+        let at = 4 * i;
+        line(table[at], table[at + 1], table[at + 2], table[at + 3]);
+        i += 1;
+    }
+}
+
+// The lines of the first `used` entries of a table of structs.
+fn struct_lines(table: [Entry; 1024], used: usize) {
+    let mut i = 0;
+    while i < used {
+        if 1024 <= i {
+            return;
+        }
+        let e = table[i];
+        line(e.start, e.skipped, e.length, e.kind);
         i += 1;
     }
 }
@@ -115,32 +128,56 @@ fn ending(end: End, state: State) {
     }
 }
 
-fn show(s: &[u8]) {
+fn heading() {
+    io::write_all(STDOUT_FILENO, b"start skipped length kind\n");
+}
+
+// The listing, by the index call over a table of numbers.
+fn show_numbers(s: &[u8]) {
     let mut table = table_room();
     let fresh = State { at: 0, used: 0 };
     let got = index::index(s, b"", fresh, &mut table, NO_LIMIT);
     let state = got.state;
     let end = got.end;
-    io::write_all(STDOUT_FILENO, b"start skipped length kind\n");
-    entries(&table, state.used);
+    heading();
+    lines(&table, state.used);
     ending(end, state);
 }
 
-// The listing of the first `n` bytes.
-fn show_first(s: &[u8], n: usize) {
-    if n <= s.len() {
-        show(&s[..n]);
+// The listing, by the index call over a table of structs.
+fn show_structs(s: &[u8]) {
+    let fresh = State { at: 0, used: 0 };
+    let got = filled::fill(s, b"", fresh, NO_LIMIT);
+    let answer = got.answer;
+    let table = got.table;
+    let state = answer.state;
+    let end = answer.end;
+    heading();
+    struct_lines(table, state.used);
+    ending(end, state);
+}
+
+fn show(s: &[u8], structs: bool) {
+    if structs {
+        show_structs(s);
+    } else {
+        show_numbers(s);
     }
 }
 
-// Prints the listing of what `fd` has. Longer input prints one line only; a read that fails prints one line on standard error.
-pub fn list(fd: i32)
-    ensures { λ r. ⌜ r ≡ tt ⌝ }
-{
+// The listing of the first `n` bytes.
+fn show_first(s: &[u8], n: usize, structs: bool) {
+    if n <= s.len() {
+        show(&s[..n], structs);
+    }
+}
+
+// Reads what `fd` has, and prints its listing.
+fn read_and_show(fd: i32, structs: bool) {
     let mut buf = io::large_buffer();
     match gather(fd, &mut buf) {
         Input::Bytes(n) => {
-            show_first(&buf, n);
+            show_first(&buf, n, structs);
         }
         Input::Longer => {
             io::write_all(STDOUT_FILENO, b"refused: over 65536\n");
@@ -149,4 +186,18 @@ pub fn list(fd: i32)
             io::write_all(STDERR_FILENO, b"listing: the input cannot be read\n");
         }
     }
+}
+
+// Prints the listing of what `fd` has. Longer input prints one line only; a read that fails prints one line on standard error.
+pub fn list(fd: i32)
+    ensures { λ r. ⌜ r ≡ tt ⌝ }
+{
+    read_and_show(fd, false);
+}
+
+// The same listing, by way of a table of structs.
+pub fn list_structs(fd: i32)
+    ensures { λ r. ⌜ r ≡ tt ⌝ }
+{
+    read_and_show(fd, true);
 }

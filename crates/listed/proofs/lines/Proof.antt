@@ -1,8 +1,8 @@
--- `listed::entries` is safe and ends. Assumes nothing.
+-- `listed::lines` is safe and ends. Assumes nothing.
 use borrow.Author.Needs.{needs}
 use Prim.Native.Nat.{_≤_, _-_}
-use Rattle.listed.proofs.entries.Statement.{statement}
-use Rattle.listed.proofs.entries.Tie as tie
+use Rattle.listed.proofs.lines.Statement.{statement}
+use Rattle.listed.proofs.lines.Tie as tie
 
 abbrev Inv-loop : tie.InvT-loop
 Inv-loop table used i₀ i = i ≤ used
@@ -10,12 +10,17 @@ Inv-loop table used i₀ i = i ≤ used
 abbrev μ-loop : tie.MeasureT-loop
 μ-loop table used i₀ i = used - i
 
-pub entries-spec : {M : Type 1} → statement M
-entries-spec =
+pub lines-spec : {M : Type 1} → statement M
+lines-spec =
     tie.close
     (tie.spec
     Inv-loop
     μ-loop
+    (λ c. search needs)
+    (λ c. search needs)
+    (λ c. search needs)
+    (λ c. search needs)
+    (λ c. search needs)
     (λ c. search needs)
     (λ c. search needs)
     (λ c. search needs)
