@@ -33,7 +33,7 @@ fn ours_messages(bytes: &[u8], filter: &[u8], with_arguments: bool) -> u64 {
             host::raw::DONE => {
                 items += 1;
                 black_box(&out);
-                if with_arguments && out[host::raw::MESSAGE_FILTERED] == 0 && out[host::raw::MESSAGE_PAYLOAD] == 0 {
+                if with_arguments && out[host::raw::MESSAGE_FILTERED] == 0 {
                     ours_arguments(&bytes[at..], &out);
                 }
                 at += answer.used as usize;
@@ -45,12 +45,22 @@ fn ours_messages(bytes: &[u8], filter: &[u8], with_arguments: bool) -> u64 {
     items
 }
 
-/// Every argument of a message, with all its numbers.
+/// Every argument of a message, with all its numbers; of a network trace every raw value.
 fn ours_arguments(bytes: &[u8], message: &[u64]) {
     let mut out = [0; host::raw::ARGUMENT_SIZE];
+    // both calls write where the next argument stands and how many are left to the first two places
+    let next = match message[host::raw::MESSAGE_PAYLOAD] {
+        0 => host::raw::argument,
+        3 => host::raw::raw_value,
+        _ => return,
+    };
     let (mut at, mut left) = (message[host::raw::MESSAGE_START] as usize, message[host::raw::MESSAGE_LENGTH] as usize);
     let big = message[host::raw::MESSAGE_LIST_BIG] == 1;
-    while left > 0 && host::raw::argument(bytes, at, left, big, &mut out).number == host::raw::DONE {
+    while left > 0 {
+        let answer = next(bytes, at, left, big, &mut out);
+        if answer.number != host::raw::DONE || answer.value == 0 {
+            return;
+        }
         black_box(&out);
         (at, left) = (out[host::raw::ARGUMENT_NEXT] as usize, out[host::raw::ARGUMENT_LEFT] as usize);
     }
@@ -221,8 +231,8 @@ fn main() {
     println!("Machine: {}. Best of {rounds} rounds, in turn. `out` is not cleared between calls.\n", machine());
     println!("| Call and input | Count | Ours | Beside it | Ratio |\n|---|---|---|---|---|");
     let trace = traces::mixed(SIZE, 7, true);
-    row("dlt_message, mixed trace", trace.len(), "dlt-core", in_turn(rounds, || ours_messages(&trace, &[], false), || core_messages(&trace, None)));
-    row("the same, and every argument by its cursor", trace.len(), "dlt-core", in_turn(rounds, || ours_messages(&trace, &[], true), || core_messages(&trace, None)));
+    row("dlt_message, and every argument by its cursor, mixed trace", trace.len(), "dlt-core", in_turn(rounds, || ours_messages(&trace, &[], true), || core_messages(&trace, None)));
+    row("dlt_message, the same trace", trace.len(), "dlt-core", in_turn(rounds, || ours_messages(&trace, &[], false), || core_messages(&trace, None)));
     let (bytes, config) = filters(4, "APP");
     row("dlt_message, filter of three sets of 4", trace.len(), "dlt-core", in_turn(rounds, || ours_messages(&trace, &bytes, false), || core_messages(&trace, Some(&config))));
     if let Some(real) = corpus() {

@@ -9,9 +9,11 @@ use mathlib.Core.List.{List}
 use lib.ListN.{length}
 use lib.Dec.{leb}
 use borrow.Author.Tests.{leb-true, leb-false}
+use Rattle.wire.specs.Answer.{numbered}
 use Rattle.wire.specs.Answer.Ans.{done, need, hickup, broken}
 use Rattle.wire.specs.Parser.{pick}
 use Rattle.wire.specs.Lawful.{Waits}
+use Rattle.wire.proofs.Laws.{is-two, of-two}
 use Rattle.headertype.specs.HeaderType.{allHeaders}
 use Rattle.headertype.specs.declared.StandardHeader.{StandardHeader}
 use Rattle.messageinfo.specs.declared.ExtendedHeader.{ExtendedHeader}
@@ -100,9 +102,9 @@ module _ (s : List ℕ) (at : ℕ) (byte : htypOf s at < 256) where
   pub standard-refused : (r : ℕ) → (standard s at ≡ hickup r) ↔ ((r ≡ 1) × StandardThere s at × (lenOf s at < headers (htypOf s at)))
   standard-refused r = (of-refused outcome r, λ q. refused-of outcome (q .1) (q .2) ∙ ap hickup (sym (q .0)))
 
-  -- it is waited for just where one of them doesn't
-  pub standard-waits : Waits (standard s at) ↔ (length s < standardEnd s at)
-  standard-waits = (of-waiting outcome, waiting-of outcome)
+  -- it is waited for (number 2) just where one of them doesn't
+  pub standard-waits : (numbered (standard s at) .number ≡ 2) ↔ (length s < standardEnd s at)
+  standard-waits = (λ e. of-waiting outcome (of-two (standard s at) e), λ l. is-two (standard s at) (waiting-of outcome l))
 
   pub standard-never-broken : standard s at ≡ broken → ⊥
   standard-never-broken = not-broken outcome
@@ -169,5 +171,8 @@ module _ (s : List ℕ) (at : ℕ) (byte : htypOf s at < 256) (flagged : UEH (ht
   pub extended-read : (HeadersThere s at → ExtendedRead s at) × ((x : ExtendedHeader) (n : ℕ) → extended s (standardEnd s at) ≡ done x n → HeadersThere s at)
   extended-read = (extended-of (later s (standardEnd s at)), of-extended (later s (standardEnd s at)))
 
-  pub extended-waits : Waits (extended s (standardEnd s at)) ↔ (length s < headersEnd s at)
-  extended-waits = (of-later (later s (standardEnd s at)), later-of (later s (standardEnd s at)))
+  pub extended-waits : (numbered (extended s (standardEnd s at)) .number ≡ 2) ↔ (length s < headersEnd s at)
+  extended-waits = (
+    λ e. of-later (later s (standardEnd s at)) (of-two (extended s (standardEnd s at)) e),
+    λ l. is-two (extended s (standardEnd s at)) (later-of (later s (standardEnd s at)) l),
+  )

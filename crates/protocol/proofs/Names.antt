@@ -89,7 +89,7 @@ alike-is a b e = sym (again a) ∙ ap (λ n. getD names n Name.reserved) (eqb-tr
 pub is-alike : (a b : Name) → a ≡ b → alike a b ≡ true
 is-alike a b e = eq-eqb (number a) (number b) (ap number e)
 
--- ---- the crate's name is the protocol's everywhere but in the set otherName, and nowhere there
+-- ---- the crate's name is the protocol's everywhere but in the set otherName, and nowhere there. The protocol's names of network traces are libdlt's table
 pub named : (m : ℕ) → m < 256 → alike (namedAs (messageTypeOf m)) (nameOf m) ≡ no (otherName m)
 unfolding messageTypeBy knownLevel logLevelOf applicationTraceOf networkTraceOf controlOf
 named m h = tests (λ m. alike (namedAs (messageTypeOf m)) (nameOf m)) (λ m. no (otherName m)) 256 refl m h

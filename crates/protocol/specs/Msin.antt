@@ -64,7 +64,7 @@ traceName n =
     (pick (eqb n 4) Name.state
     (pick (eqb n 5) Name.vfb Name.reserved))))
 
--- MSTP 2, network trace, as libdlt and tshark have it
+-- MSTP 2, network trace: libdlt's table, and tshark's. That AUTOSAR's own is the same is recalled, not read
 abbrev pub networkName : ℕ → Name
 networkName n =
     pick (eqb n 1) Name.ipc
@@ -148,7 +148,7 @@ reservedSet msin =
     (pick (eqb (MSTP msin) 2) (either (eqb (MTIN msin) 0) (from-to 5 7 (MTIN msin)))
     (pick (eqb (MSTP msin) 3) (no (from-to 1 3 (MTIN msin))) true)))
 
--- where the crate's name is another than the protocol's: network trace 5, 6, 7 and 15, and the control message of the time
+-- where the crate's name is another than the protocol's: network trace 5, 6, 7 and 15 by libdlt's table, and the control message of the time
 abbrev pub otherName : ℕ → Bool
 otherName msin =
     either (both (eqb (MSTP msin) 2) (either (from-to 5 7 (MTIN msin)) (eqb (MTIN msin) 15)))
