@@ -30,8 +30,22 @@ loop-again c =
     let l = c1 .before .before .before .before .loop in
     (omega arith, l .inv .1 ∙ times-next _ _ _ _ (l .i) (c1 .before .before .before .loop-test .taken) (was-done _ _ (told skimAns (c1 .before .before .skim-argument .ensures) (c1 .next .given .1)) .1))
 
+returns : tie.Need-returns Inv-loop μ-loop
+returns c =
+    let c1 = c .before in
+    let l = c1 .before .before .before .before .loop in
+    sym (l .inv .1 ∙ times-need _ _ _ _ (l .i) (c1 .before .before .before .loop-test .taken) (was-need _ _ (told skimAns (c1 .before .before .skim-argument .ensures) (c1 .no-item .given .1))))
+
+returns-2 : tie.Need-returns-2 Inv-loop μ-loop
+returns-2 c =
+    let c1 = c .before in
+    let l = c1 .before .before .before .before .loop in
+    sym (l .inv .1 ∙ times-hickup _ _ _ _ (l .i) (c1 .before .before .before .loop-test .taken) (was-hickup _ _ (told skimAns (c1 .before .before .skim-argument .ensures) (c1 .bad-item .given .1))))
+
+returns-3 : tie.Need-returns-3 Inv-loop μ-loop
+returns-3 c = sym (c .before .loop .inv .1 ∙ times-none _ _ _ _ (c .before .loop .i) (c .loop-test .left))
+
 pub pass-arguments-spec : {M : Type 1} → statement M
-unfolding arguments
 pass-arguments-spec =
     tie.close
     (tie.spec
@@ -41,19 +55,10 @@ pass-arguments-spec =
     (λ c κs. search needs)
     (λ c. search needs)
     (λ c. search needs)
-    -- returns
-    (λ c.
-    let c1 = c .before in
-    let l = c1 .before .before .before .before .loop in
-    sym (l .inv .1 ∙ times-need _ _ _ _ (l .i) (c1 .before .before .before .loop-test .taken) (was-need _ _ (told skimAns (c1 .before .before .skim-argument .ensures) (c1 .no-item .given .1)))))
+    returns
     (λ c. search needs)
-    -- returns-2
-    (λ c.
-    let c1 = c .before in
-    let l = c1 .before .before .before .before .loop in
-    sym (l .inv .1 ∙ times-hickup _ _ _ _ (l .i) (c1 .before .before .before .loop-test .taken) (was-hickup _ _ (told skimAns (c1 .before .before .skim-argument .ensures) (c1 .bad-item .given .1)))))
+    returns-2
     (λ c. search needs)
     (λ c. search needs)
     loop-again
-    -- returns-3
-    (λ c. sym (c .before .loop .inv .1 ∙ times-none _ _ _ _ (c .before .loop .i) (c .loop-test .left))))
+    returns-3)

@@ -17,6 +17,18 @@ Inv-loop s big at₀ left₀ at left = firstRaw big left₀ s at₀ ≡ firstRaw
 abbrev μ-loop : tie.MeasureT-loop
 μ-loop s big at₀ left₀ at left = left
 
+returns : tie.Need-returns Inv-loop μ-loop
+returns c =
+    let c3 = c .before .before .before in
+    let l = c3 .before .before .loop in
+    sym (l .inv ∙ raw-need _ _ _ (l .left) (l .left - 1) (omega (arith, c3 .before .loop-test .taken)) (told argumentAns (c3 .dlt-argument .ensures) (c .before .no-item .given .1)))
+
+returns-2 : tie.Need-returns-2 Inv-loop μ-loop
+returns-2 c =
+    let c3 = c .before .before .before in
+    let l = c3 .before .before .loop in
+    sym (l .inv ∙ raw-hickup _ _ _ (l .left) (l .left - 1) (omega (arith, c3 .before .loop-test .taken)) (told argumentAns (c3 .dlt-argument .ensures) (c .before .bad-item .given .1)))
+
 pub next-spec : {M : Type 1} → statement M
 next-spec =
     tie.close
@@ -27,17 +39,9 @@ next-spec =
     (λ c κs. search needs)
     (λ c. search needs)
     (λ c. search needs)
-    -- returns
-    (λ c.
-    let c3 = c .before .before .before in
-    let l = c3 .before .before .loop in
-    sym (l .inv ∙ raw-need _ _ _ (l .left) (l .left - 1) (omega (arith, c3 .before .loop-test .taken)) (told argumentAns (c3 .dlt-argument .ensures) (c .before .no-item .given .1))))
+    returns
     (λ c. search needs)
-    -- returns-2
-    (λ c.
-    let c3 = c .before .before .before in
-    let l = c3 .before .before .loop in
-    sym (l .inv ∙ raw-hickup _ _ _ (l .left) (l .left - 1) (omega (arith, c3 .before .loop-test .taken)) (told argumentAns (c3 .dlt-argument .ensures) (c .before .bad-item .given .1))))
+    returns-2
     (λ c κs. search needs)
     (λ c. search needs)
     -- returns-3
