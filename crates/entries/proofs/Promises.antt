@@ -1,5 +1,5 @@
 -- What is proved of the call at any form of table, at this one: each line cites index's theorem. Assumes nothing.
-use Prim.Native.Nat.{ℕ, _+_, _<_, _≤_}
+use Prim.Native.Nat.{ℕ, _+_, _-_, _<_, _≤_}
 use mathlib.Core.Path.{_≡_}
 use mathlib.Core.List.{List, _++_}
 use native.Mathlib.Nat.{one-mul}
@@ -7,10 +7,11 @@ use native.Mathlib.Omega.{arith}
 use lib.ListN.{length, take, drop}
 use Rattle.walk.specs.Walk.{Ends}
 use Rattle.index.specs.Index.{limit, numberOf, endOf, refused, walkOf, call}
-use Rattle.index.specs.Calls.{unlimited, whole, adding, next, over-trace, calls, joined, repeated, Above, total}
+use Rattle.index.specs.Calls.{unlimited, whole, adding, next, over-trace, calls, joined, repeated, Above, total, SameEntries, Alike}
 use Rattle.index.specs.declared.State.{State}
 use Rattle.index.specs.declared.End.{End}
 use Rattle.index.proofs.Promises as any
+use Rattle.index.proofs.Unused as unused
 use Rattle.entries.specs.Form.{entryForm}
 use Rattle.entries.specs.declared.Entry.{Entry}
 use Rattle.entries.proofs.Turns.{entry-sound}
@@ -90,3 +91,14 @@ module _ (f : List ℕ) where
   pub kept-behind : (n : ℕ) (s : List ℕ) (st : State) (T : List Entry)
       → drop (call entryForm f n s st T .answer .state .used) (call entryForm f n s st T .table) ≡ drop (call entryForm f n s st T .answer .state .used) T
   kept-behind n s st T = rw one-mul at (any.kept-behind entryForm entry-sound f n s st T)
+
+  -- whatever stands in the places that no entry uses, answers and entries are the same; so demand 3 holds where a host wrote there between the calls
+  pub same-entries : (n : ℕ) (s : List ℕ) (st : State) (T U : List Entry) → SameEntries entryForm (st .used) T U → Alike entryForm (call entryForm f n s st T) (call entryForm f n s st U)
+  same-entries = unused.same-entries entryForm entry-sound f
+
+  pub written-between : (n : ℕ) (s t : List ℕ) (st : State) (T U : List Entry) → st .at + length (s ++ t) ≤ limit
+      → SameEntries entryForm (call entryForm f n s st T .answer .state .used) (call entryForm f n s st T .table) U
+      → Alike entryForm (whole entryForm f (s ++ t) st T)
+      (adding (call entryForm f n s st T .answer .taken)
+      (call entryForm f unlimited (drop (call entryForm f n s st T .answer .state .at - st .at) (s ++ t)) (call entryForm f n s st T .answer .state) U))
+  written-between = unused.written-between entryForm entry-sound f

@@ -74,6 +74,10 @@ pub record SameEntries {A : Type 0} (form : Form A) (n : ℕ) (T U : List A) : T
   pub as-long : length U ≡ length T
   pub entries : take (form .width * n) U ≡ take (form .width * n) T
 
+-- two calls with the same answer, whose tables have the same entries
+abbrev pub Alike : {A : Type 0} → Form A → Outcome A → Outcome A → Type 0
+Alike form a b = (b .answer ≡ a .answer) × SameEntries form (a .answer .state .used) (a .table) (b .table)
+
 -- bytes skipped and lengths over the first n entries of a flat table
 unfoldable pub totals : ℕ → List ℕ → ℕ
 totals zero T = 0
