@@ -1,4 +1,4 @@
-//! The wrapper's answers in the one text of all answers (ANSWERS.md of the design), as `replay` and the oracle print them.
+//! The wrapper's answers in the one text of all answers (docs/REQUESTS.md), as `replay` and the oracle print them.
 
 use crate::*;
 use std::fmt::Write;
