@@ -1,5 +1,6 @@
 #!/bin/sh
 # tools/again-arguments.sh NAME: makes the machine-made proof files of a crate anew.
+[ $# -ge 1 ] || { echo "usage: tools/again-arguments.sh NAME" >&2; exit 2; }
 cd "$(dirname "$0")/.." || exit 2
 auto() { c=$1 f=$2 m=$3 r=$4 s=$5; tools/auto.py "$c" "$f" "Rattle.$c.specs.$m" "$r" "${6:-Rattle·$c·proofs.proofs.Reading}" "$s"; }
 values() {

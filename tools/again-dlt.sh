@@ -3,6 +3,7 @@
 #   rm -r crates/CRATE/proofs/FUNCTION; RT_CUT=0 rt dev CRATE 2>&1 | tools/stub.py
 # By hand: messageinfo's MessageType/try_from, and a line of dlt's TypeInfo/try_from (the coding's `rw`), which this keeps.
 # PROOF_TOOLS is the folder of auto.py and table.py.
+[ $# -ge 1 ] || { echo "usage: tools/again-dlt.sh CRATE" >&2; exit 2; }
 T=${PROOF_TOOLS:-tools}
 c=$1
 auto() { [ -f "crates/$c/proofs/$1/Proof.antt" ] && "$T/auto.py" "$c" "$1" "Rattle.$c.specs.$2" "$3" "${4:-Rattle·$c·proofs.proofs.Reading}" "${5:-$set}"; }
