@@ -212,12 +212,18 @@ fn filters(n: usize, app: &str) -> (Vec<u8>, ProcessedDltFilterConfig) {
 }
 
 /// The corpus's recordings one after the other, repeated.
+/// The recordings of the folder that CORPUS names, repeated; where there are none, that is said.
 fn corpus() -> Option<Vec<u8>> {
     let folder = std::env::var("CORPUS").unwrap_or(concat!(env!("CARGO_MANIFEST_DIR"), "/../../shared/corpus/real").to_string());
-    let mut names: Vec<_> = std::fs::read_dir(folder).ok()?.filter_map(|entry| Some(entry.ok()?.path())).filter(|path| path.is_file()).collect();
+    let listed = std::fs::read_dir(&folder).into_iter().flatten();
+    let mut names: Vec<_> = listed.filter_map(|entry| Some(entry.ok()?.path())).filter(|path| path.is_file()).collect();
     names.sort();
     let all: Vec<u8> = names.iter().filter_map(|name| std::fs::read(name).ok()).flatten().collect();
-    (!all.is_empty()).then(|| traces::repeated(SIZE, &all))
+    if all.is_empty() {
+        eprintln!("bench: no recordings in {folder} (CORPUS names another folder), so the row 'corpus repeated' is left out");
+        return None;
+    }
+    Some(traces::repeated(SIZE, &all))
 }
 
 fn machine() -> String {

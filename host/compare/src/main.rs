@@ -50,6 +50,9 @@ fn run() -> Result<bool, String> {
             sum.asked += part.asked;
             sum.differ += part.differ;
         }
+        if sum.asked == 0 {
+            return Err(format!("{kind}: nothing was compared; the host answers {}", KINDS.join(", ")));
+        }
         println!("{kind}: {} inputs, {} differ", sum.asked, sum.differ);
         asked += sum.asked;
         differ += sum.differ;
