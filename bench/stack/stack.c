@@ -42,6 +42,7 @@ int main(void) {
     MEASURE("dlt_message, with a filter", a = dlt_message(message, sizeof message, filter, sizeof filter, true, out, 64));
     if (a.number != 0) printf("dlt_message answered %d\n", (int)a.number);
     MEASURE("dlt_argument", a = dlt_argument(message, sizeof message, at + 14, left - 2, false, out, 64));
+    MEASURE("dlt_raw_value", a = dlt_raw_value(message, sizeof message, at, left, false, out, 64));
     MEASURE("dlt_index", i = dlt_index(message, sizeof message, filter, 0, 0, 0, table, 64, SIZE_MAX));
     MEASURE("dlt_index, with a filter", i = dlt_index(message, sizeof message, filter, sizeof filter, 0, 0, table, 64, SIZE_MAX));
     MEASURE("dlt_forward_to_next_storage_header", a = dlt_forward_to_next_storage_header(message, sizeof message, 1));
