@@ -1,3 +1,4 @@
 pub mod Utf8
 pub mod Longest
 pub mod Strings
+pub mod Spelled

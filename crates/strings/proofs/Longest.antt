@@ -33,7 +33,7 @@ among-between (r ∷ rs) n k s at w e p h =
     by true f g x = f x
     by false f g x = g x
 
-between : (n k : ℕ) (s : List ℕ) (at w : ℕ) → sequence n s at ≡ w → 0 < w → w ≤ k → sequence k s at ≡ w
+pub between : (n k : ℕ) (s : List ℕ) (at w : ℕ) → sequence n s at ≡ w → 0 < w → w ≤ k → sequence k s at ≡ w
 unfolding sequence
 between n k s at w e p h = among-between table n k s at w e p h
 

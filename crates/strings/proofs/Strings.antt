@@ -28,7 +28,7 @@ before0-same zero s t at h = refl
 before0-same (suc n) s t at h =
     rw (List·getD-append s t 0 at (omega arith), before0-same n s t (suc at) (omega arith))
 
-before0-le : (n : ℕ) (s : List ℕ) (at : ℕ) → before0 n s at ≤ n
+pub before0-le : (n : ℕ) (s : List ℕ) (at : ℕ) → before0 n s at ≤ n
 before0-le zero s at = zero-le
 before0-le (suc n) s at = by (eqb (getD s at 0) 0) (before0-le n s (suc at))
   where
@@ -66,11 +66,11 @@ unfolding identified
 identified-law = text-law 4
 
 -- ---- the search, at the code's numbers
-found : (m : ℕ) (s : List ℕ) (at : ℕ) → 0 < m → getD s at 0 ≡ 0 → before0 m s at ≡ 0
+pub found : (m : ℕ) (s : List ℕ) (at : ℕ) → 0 < m → getD s at 0 ≡ 0 → before0 m s at ≡ 0
 found zero s at h e = absurd (not-suc-le-zero h)
 found (suc m) s at h e = rw (eq-eqb _ _ e)
 
-passed : (m : ℕ) (s : List ℕ) (at : ℕ) → 0 < m → (getD s at 0 ≡ 0 → ⊥) → before0 m s at ≡ suc (before0 (m - 1) s (at + 1))
+pub passed : (m : ℕ) (s : List ℕ) (at : ℕ) → 0 < m → (getD s at 0 ≡ 0 → ⊥) → before0 m s at ≡ suc (before0 (m - 1) s (at + 1))
 passed zero s at h e = absurd (not-suc-le-zero h)
 passed (suc m) s at h e =
     let a : suc at ≡ at + 1 = omega arith in
@@ -104,7 +104,7 @@ module _ (s : List ℕ) (at n : ℕ) where
 pub no-truth : {X : Type 0} → false ≡ true → X
 no-truth e = let z : _≡_ {A = ℕ} 0 1 = cc in absurd (omega arith)
 
-letter-is : (b : ℕ) → letter b ≡ true → (0 < b) × (b ≤ 0x7F)
+pub letter-is : (b : ℕ) → letter b ≡ true → (0 < b) × (b ≤ 0x7F)
 letter-is b e = by (leb 1 b) (leb b 0x7F) refl refl e
   where
     by : (t u : Bool) → leb 1 b ≡ t → leb b 0x7F ≡ u → (t && u) ≡ true → (0 < b) × (b ≤ 0x7F)
@@ -112,7 +112,7 @@ letter-is b e = by (leb 1 b) (leb b 0x7F) refl refl e
     by true false p q z = no-truth z
     by false u p q z = no-truth z
 
-is-letter : (b : ℕ) → (b ≡ 0 → ⊥) → b ≤ 0x7F → letter b ≡ true
+pub is-letter : (b : ℕ) → (b ≡ 0 → ⊥) → b ≤ 0x7F → letter b ≡ true
 is-letter b z h = rw (le-leb 1 b (omega (arith, z)), le-leb b 0x7F h)
 
 module _ (s : List ℕ) (at n : ℕ) where

@@ -170,7 +170,7 @@ valid-step (suc n) s at w h e p =
     rw (ne-eqb w 0 (λ z. not-suc-le-zero (rw z at p)))
     (ap (λ (k : ℕ). w + k) (enough n n (suc n - w) (suc n - w) s (at + w) (omega arith) (omega arith) (omega arith))))
 
-valid-stop : (n : ℕ) (s : List ℕ) (at : ℕ) → 0 ≡ sequence n s at → validUpTo n s at ≡ 0
+pub valid-stop : (n : ℕ) (s : List ℕ) (at : ℕ) → 0 ≡ sequence n s at → validUpTo n s at ≡ 0
 unfolding validUpTo upTo
 valid-stop zero s at e = refl
 valid-stop (suc n) s at e = rw (sym e)

@@ -5,9 +5,10 @@ ghost use mathlib.Core.Path.{_≡_};
 ghost use mathlib.Core.List.{[], _∷_};
 ghost use Prim.Native.Nat.{_+_, _-_, _≤_, _<_};
 ghost use lib.ListN.{length, getD};
-ghost use Rattle.wire.specs.Run.{rangeAns};
+ghost use Rattle.wire.specs.Answer.Ans.{done};
+ghost use Rattle.wire.specs.Run.{range, rangeAns};
 ghost use Rattle.strings.specs.Utf8.{span, tail, inside, formed, sequence, least, validUpTo};
-ghost use Rattle.strings.specs.Text.{before0, Letters, text, identified};
+ghost use Rattle.strings.specs.Text.{before0, letter, Letters, textNeed, textOf, text, identified};
 use wire::GotRange;
 use wire::Range;
 use wire::RangeAns;
@@ -70,9 +71,9 @@ fn four_bytes(s: &[u8], at: usize, n: usize, low: u8, high: u8) -> usize
     0
 }
 
-// The same as `sequence_at`, of a lead byte above 7F: by the row that it is in.
-fn longer_at(s: &[u8], at: usize, n: usize) -> usize
-    requires { ⌜ (0 < n) × (n ≤ length (now s) - at) × (0x7F < getD (now s) at 0) ⌝ }
+// The same as `sequence_at`, of a lead byte from 80 to EF: by the row that it is in, of those of two and three bytes.
+fn two_or_three_at(s: &[u8], at: usize, n: usize) -> usize
+    requires { ⌜ (0 < n) × (n ≤ length (now s) - at) × (0x7F < getD (now s) at 0) × (getD (now s) at 0 ≤ 0xEF) ⌝ }
     ensures { λ r. ⌜ r ≡ sequence n (now (s .entry)) at ⌝ }
 {
     let lead = s[at];
@@ -91,9 +92,15 @@ fn longer_at(s: &[u8], at: usize, n: usize) -> usize
     if lead <= 0xED {
         return three_bytes(s, at, n, 0x80, 0x9F);
     }
-    if lead <= 0xEF {
-        return three_bytes(s, at, n, 0x80, 0xBF);
-    }
+    three_bytes(s, at, n, 0x80, 0xBF)
+}
+
+// The same of one above EF: by the row that it is in, of those of four bytes.
+fn four_at(s: &[u8], at: usize, n: usize) -> usize
+    requires { ⌜ (0 < n) × (n ≤ length (now s) - at) × (0xEF < getD (now s) at 0) ⌝ }
+    ensures { λ r. ⌜ r ≡ sequence n (now (s .entry)) at ⌝ }
+{
+    let lead = s[at];
     if lead <= 0xF0 {
         return four_bytes(s, at, n, 0x90, 0xBF);
     }
@@ -104,6 +111,17 @@ fn longer_at(s: &[u8], at: usize, n: usize) -> usize
         return four_bytes(s, at, n, 0x80, 0x8F);
     }
     0
+}
+
+// The same of any above 7F.
+fn longer_at(s: &[u8], at: usize, n: usize) -> usize
+    requires { ⌜ (0 < n) × (n ≤ length (now s) - at) × (0x7F < getD (now s) at 0) ⌝ }
+    ensures { λ r. ⌜ r ≡ sequence n (now (s .entry)) at ⌝ }
+{
+    if s[at] <= 0xEF {
+        return two_or_three_at(s, at, n);
+    }
+    four_at(s, at, n)
 }
 
 // The length of the well-formed sequence at `at` within `n` bytes, 0 where there is none.
@@ -217,27 +235,120 @@ pub fn dlt_zero_terminated_string_intern(s: &[u8], at: usize, size: usize) -> Ra
     })
 }
 
-// An identifier: a string of size 4. Most are letters up to a zero byte or the end.
+// ---- an identifier, byte by byte: its four bytes stand at `at`, each step looks at one of them, and the answer is how many bytes the value
+// has. A letter is passed. A zero byte ends it. A longer sequence of UTF-8 is passed whole, if all of it is within the four bytes. Anything
+// else ends it.
+
+// Whether a letter stands at `at`: a byte from 01 to 7F.
+fn letter_at(s: &[u8], at: usize) -> bool
+    requires { ⌜ at < length (now s) ⌝ }
+    ensures { λ r. ⌜ r ≡ letter (getD (now (s .entry)) at 0) ⌝ }
+{
+    stands(s, at, 0x01, 0x7F)
+}
+
+// From the fourth byte on: a letter is the last of four.
+fn from_fourth(s: &[u8], at: usize) -> usize
+    requires { ⌜ 4 ≤ length (now s) - at ⌝ }
+    ensures { λ r. ⌜ r ≡ 3 + textOf 1 (now (s .entry)) (at + 3) .len ⌝ }
+{
+    if letter_at(s, at + 3) { 4 } else { 3 }
+}
+
+// From the third on: behind a letter the fourth is next; a sequence of two is the rest.
+fn from_third(s: &[u8], at: usize) -> usize
+    requires { ⌜ 4 ≤ length (now s) - at ⌝ }
+    ensures { λ r. ⌜ r ≡ 2 + textOf 2 (now (s .entry)) (at + 2) .len ⌝ }
+{
+    if letter_at(s, at + 2) {
+        return from_fourth(s, at);
+    }
+    if s[at + 2] == 0 {
+        return 2;
+    }
+    2 + longer_at(s, at + 2, 2)
+}
+
+// From the second on: behind a letter the third is next, behind a sequence of two the fourth; one of three is the rest.
+fn from_second(s: &[u8], at: usize) -> usize
+    requires { ⌜ 4 ≤ length (now s) - at ⌝ }
+    ensures { λ r. ⌜ r ≡ 1 + textOf 3 (now (s .entry)) (at + 1) .len ⌝ }
+{
+    if letter_at(s, at + 1) {
+        return from_third(s, at);
+    }
+    if s[at + 1] == 0 {
+        return 1;
+    }
+    match longer_at(s, at + 1, 3) {
+        2 => from_fourth(s, at),
+        rest => 1 + rest,
+    }
+}
+
+// From the first on: behind a letter the second is next, behind a sequence of two the third, behind one of three the fourth; one of four is
+// all there is.
+fn from_first(s: &[u8], at: usize) -> usize
+    requires { ⌜ 4 ≤ length (now s) - at ⌝ }
+    ensures { λ r. ⌜ r ≡ textOf 4 (now (s .entry)) at .len ⌝ }
+{
+    if letter_at(s, at) {
+        return from_second(s, at);
+    }
+    if s[at] == 0 {
+        return 0;
+    }
+    if 0xEF < s[at] {
+        return four_at(s, at, 4);
+    }
+    match two_or_three_at(s, at, 4) {
+        2 => from_third(s, at),
+        3 => from_fourth(s, at),
+        none => none,
+    }
+}
+
+// An identifier that was read: its value has `len` bytes, and all four are used.
+fn read_identifier(at: usize, len: usize) -> RangeAns
+    requires { ⌜ at + 4 < 18446744073709551616 ⌝ }
+    ensures { λ r. ⌜ rangeAns r ≡ done (range at len) (at + 4) ⌝ }
+{
+    RangeAns::Done(GotRange {
+        v: Range { start: at, len },
+        next: at + 4,
+    })
+}
+
+// What an identifier needs where fewer than four bytes are left: those that are missing if a zero byte is among them, else one.
+fn id_need(s: &[u8], at: usize, rest: usize) -> usize
+    requires { ⌜ (rest ≡ length (now s) - at) × (rest < 4) ⌝ }
+    ensures { λ r. ⌜ r ≡ textNeed 4 (now (s .entry)) at ⌝ }
+{
+    match rest {
+        1 => if s[at] == 0 { 3 } else { 1 },
+        2 => if s[at] == 0 {
+            2
+        } else if s[at + 1] == 0 {
+            2
+        } else {
+            1
+        },
+        _ => 1,
+    }
+}
+
+// An identifier: a string of size 4. Most values have all four bytes; where they are answered by themselves, the answer doesn't wait for the
+// last byte.
 pub fn identifier(s: &[u8], at: usize) -> RangeAns
     ensures { λ r. ⌜ rangeAns r ≡ identified (now (s .entry)) at ⌝ }
 {
-    if 4 <= wire::left(s, at) {
-        let plain = letters(s, at, 4);
-        if plain == 4 {
-            return RangeAns::Done(GotRange {
-                v: Range { start: at, len: 4 },
-                next: at + 4,
-            });
-        }
-        if s[at + plain] == 0 {
-            return RangeAns::Done(GotRange {
-                v: Range {
-                    start: at,
-                    len: plain,
-                },
-                next: at + 4,
-            });
-        }
+    let rest = wire::left(s, at);
+    if rest < 4 {
+        return RangeAns::Need(id_need(s, at, rest));
     }
-    dlt_zero_terminated_string_intern(s, at, 4)
+    let len = from_first(s, at);
+    if len == 4 {
+        return read_identifier(at, 4);
+    }
+    read_identifier(at, len)
 }

@@ -1,35 +1,30 @@
--- `strings::identifier` meets its contract: `search` goes through the rule as the code does.
+-- `strings::identifier` meets its contract: the two answers of a string of size 4.
 -- Assumes nothing.
 use borrow.Author.Needs.{needs}
-use Rattle.strings.proofs.Strings.{letters-all, letters-end, text-done}
-use Rattle.strings.specs.Text.{identified}
+use native.Mathlib.Omega.{arith}
+use mathlib.Core.Path.{refl, _∙_}
+use Rattle.strings.proofs.Spelled.{id-waits, id-done}
 use Rattle.strings.proofs.identifier.Statement.{statement}
 use Rattle.strings.proofs.identifier.Tie as tie
 
 returns : tie.Need-returns
-unfolding identified
-returns c = search (text-done, letters-all) depth 20
+returns c = id-waits _ _ _ refl _ (c .id-need .ensures) (omega arith)
 
 returns-2 : tie.Need-returns-2
-unfolding identified
-returns-2 c = search (text-done, letters-end) depth 20
+returns-2 c = c .read-identifier .ensures ∙ id-done _ _ _ refl 4 (omega arith) (omega arith)
 
 returns-3 : tie.Need-returns-3
-unfolding identified
-returns-3 c = c .dlt-zero-terminated-string-intern .ensures
+returns-3 c = c .read-identifier2 .ensures ∙ id-done _ _ _ refl _ (c .before .before .from-first .ensures) (omega arith)
 
 pub identifier-spec : {M : Type 1} → statement M
-unfolding identified
 identifier-spec =
-    tie.close
-    (tie.spec
+    let closed = tie.spec
     (λ c κs. search needs)
     (λ c κs. search needs)
-    (λ c. search needs)
     returns
-    (λ c. search needs)
-    (λ c. search needs)
-    (λ c. search needs)
+    (λ c κs. search needs)
+    (λ c κs. search needs)
     returns-2
     (λ c κs. search needs)
-    returns-3)
+    returns-3
+    in tie.close closed
