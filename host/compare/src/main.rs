@@ -1,6 +1,7 @@
 //! compare KIND COUNT SEED [THREADS]: makes requests by seed as `oracle/compare` does, asks the crate and the archive in this process, and counts the
 //! answers that differ. KIND is msg, consume, fwd, args, index, limited (index with a limit), net (msg of
-//! network traces) or all. With threads, each has a seed of its own: SEED, SEED + 1, ..
+//! network traces) or all; or ids, which all leaves out: msg with 1,901,020 identifiers of every make, and then random ones.
+//! With threads, each has a seed of its own: SEED, SEED + 1, ..
 
 use std::time::Instant;
 
@@ -51,7 +52,7 @@ fn run() -> Result<bool, String> {
             sum.differ += part.differ;
         }
         if sum.asked == 0 {
-            return Err(format!("{kind}: nothing was compared; the host answers {}", KINDS.join(", ")));
+            return Err(format!("{kind}: nothing was compared; the host answers {}, ids", KINDS.join(", ")));
         }
         println!("{kind}: {} inputs, {} differ", sum.asked, sum.differ);
         asked += sum.asked;

@@ -22,7 +22,7 @@ pub const IDS: [[u8; 4]; 12] = [
 ];
 
 /// Those of them that a filter may hold.
-const FILTER_IDS: [[u8; 4]; 8] =
+pub const FILTER_IDS: [[u8; 4]; 8] =
     [*b"APP\0", *b"ECU1", *b"A\0\0\0", *b"\0\0\0\0", *b"\xc3\xa9\0\0", *b"AB\xc3\xa9", *b"\xf0\x9f\x98\x80", *b"CTX\0"];
 
 /// Patterns of floats of 32 bits: zeros, smallest, largest, infinite, every class of not-a-number.

@@ -4,11 +4,12 @@ use super::build::{
     argument, damage, declare, every_word, filter, filter_field, filter_or_none, headers, junk, message, message_with,
     number, random_word, storage_header, stored_message, FLOATS32, FLOATS64, GOOD_KINDS, IDS,
 };
+use super::identifiers::examples;
 use super::random::Rng;
 use super::strings::BOUNDARY;
 use super::{every_cut, every_string, hex, Emit, Section};
 
-pub const TINY: &[Section] = &[every_argument_kind];
+pub const TINY: &[Section] = &[every_argument_kind, examples];
 pub const SECTIONS: &[Section] = &[
     every_flag_cut,
     every_message_info,
@@ -30,7 +31,7 @@ pub const SECTIONS: &[Section] = &[
 pub const TRACES_TINY: &[Section] = &[every_pair_of_kinds];
 pub const TRACES: &[Section] = &[every_pair_of_kinds, network_traces];
 
-fn request(storage: bool, filter: &[u8], bytes: &[u8]) -> String {
+pub fn request(storage: bool, filter: &[u8], bytes: &[u8]) -> String {
     format!("msg {} {} {}", u8::from(storage), hex(filter), hex(bytes))
 }
 

@@ -7,6 +7,7 @@
 mod bad;
 mod build;
 mod fields;
+mod identifiers;
 mod index;
 mod messages;
 mod random;
@@ -29,7 +30,7 @@ pub struct Kind {
 }
 
 /// Every kind, in the order in which `all` goes through them.
-pub const KINDS: [Kind; 13] = [
+pub const KINDS: [Kind; 14] = [
     Kind { name: "zts", tiny: strings::TINY, sections: strings::SECTIONS, random: strings::random },
     Kind { name: "fwd", tiny: fields::FORWARD_TINY, sections: fields::FORWARD, random: fields::random_forward },
     Kind { name: "skip", tiny: fields::SKIP_TINY, sections: fields::SKIP, random: fields::random_skip },
@@ -47,6 +48,7 @@ pub const KINDS: [Kind; 13] = [
     Kind { name: "index", tiny: index::TINY, sections: index::SECTIONS, random: index::random },
     Kind { name: "limited", tiny: index::TINY, sections: index::LIMITED, random: index::random_limited },
     Kind { name: "net", tiny: messages::TRACES_TINY, sections: messages::TRACES, random: messages::random_trace },
+    Kind { name: "ids", tiny: identifiers::TINY, sections: identifiers::SECTIONS, random: identifiers::random },
     Kind { name: "bad", tiny: bad::TINY, sections: bad::SECTIONS, random: bad::random },
 ];
 
