@@ -20,6 +20,7 @@ use filtering::ProcessedDltFilterConfig;
 use parse::{dlt_consume_msg, dlt_message, ParsedMessage};
 use std::hint::black_box;
 use std::time::{Duration, Instant};
+use traces::Ids;
 
 const SIZE: usize = 64 << 20;
 
@@ -191,14 +192,14 @@ fn row(name: &str, bytes: usize, beside: &str, (ours, theirs, count): (Duration,
 }
 
 /// A filter as bytes, and as the crate has it: a level, and sets of `n` ids. The trace's own are among them where `app` is APP.
-fn filters(n: usize, app: &str) -> (Vec<u8>, ProcessedDltFilterConfig) {
-    let set = |front: &str| -> Vec<String> { (0..n).map(|i| if i < 9 { format!("{front}{i}") } else { format!("{}{i:02}", &front[..2]) }).collect() };
+fn filters(n: u64, app: &str, ids: Ids) -> (Vec<u8>, ProcessedDltFilterConfig) {
+    let set = |front: &str| -> Vec<String> { (0..n).map(|i| if i < 9 { ids.id(front, i) } else { format!("{}{i:02}", &front[..2]) }).collect() };
     let (apps, ecus, contexts) = (set(app), set("ECU"), set("CTX"));
     let mut bytes = vec![1, 0, 1, 6];
     for (tag, ids) in [(2, &apps), (3, &ecus), (4, &contexts)] {
         bytes.push(tag);
         bytes.extend((4 * ids.len() as u16).to_be_bytes());
-        bytes.extend(ids.iter().flat_map(|id| id.bytes()));
+        bytes.extend(ids.iter().flat_map(|id| traces::padded(id)));
     }
     let config = ProcessedDltFilterConfig {
         min_log_level: Some(dlt::LogLevel::Verbose),
@@ -236,27 +237,40 @@ fn main() {
     let rounds = std::env::args().nth(1).and_then(|word| word.parse().ok()).unwrap_or(5);
     println!("Machine: {}. Best of {rounds} rounds, in turn. `out` is not cleared between calls.\n", machine());
     println!("| Call and input | Count | Ours | Beside it | Ratio |\n|---|---|---|---|---|");
-    let trace = traces::mixed(SIZE, 7, true);
+    let trace = traces::mixed(SIZE, 7, true, Ids::Letters);
     row("dlt_message, and every argument by its cursor, mixed trace", trace.len(), "dlt-core", in_turn(rounds, || ours_messages(&trace, &[], true), || core_messages(&trace, None)));
     row("dlt_message, the same trace", trace.len(), "dlt-core", in_turn(rounds, || ours_messages(&trace, &[], false), || core_messages(&trace, None)));
-    let (bytes, config) = filters(4, "APP");
+    let (bytes, config) = filters(4, "APP", Ids::Letters);
     row("dlt_message, filter of three sets of 4", trace.len(), "dlt-core", in_turn(rounds, || ours_messages(&trace, &bytes, false), || core_messages(&trace, Some(&config))));
     if let Some(real) = corpus() {
         row("dlt_message, corpus repeated", real.len(), "dlt-core", in_turn(rounds, || ours_messages(&real, &[], false), || core_messages(&real, None)));
     }
-    let clean = traces::mixed(SIZE, 7, false);
+    let clean = traces::mixed(SIZE, 7, false, Ids::Letters);
     row("dlt_consume_msg, the same without junk", clean.len(), "dlt-core", in_turn(rounds, || ours_consumed(&clean), || core_consumed(&clean)));
     let mut table = vec![0; 4 * (SIZE / 20 + 1)];
     for part in [SIZE / 64, SIZE / 16, SIZE / 4, SIZE] {
         row(&format!("index, {} MB of the mixed trace", part >> 20), part, "dlt-core", in_turn(rounds, || ours_indexed(&trace[..part], &[], &mut table), || core_indexed(&trace[..part], None)));
     }
     row("index, filter of three sets of 4", trace.len(), "dlt-core", in_turn(rounds, || ours_indexed(&trace, &bytes, &mut table), || core_indexed(&trace, Some(&config))));
-    let (others, other_config) = filters(4, "NON");
+    let (others, other_config) = filters(4, "NON", Ids::Letters);
     row("index, the same with other app ids", trace.len(), "dlt-core", in_turn(rounds, || ours_indexed(&trace, &others, &mut table), || core_indexed(&trace, Some(&other_config))));
     let mut other = table.clone();
     row("index, in calls of 64 KB", trace.len(), "one call", in_turn(rounds, || resumed(&trace, 1 << 16, &mut table), || resumed(&trace, SIZE * 2, &mut other)));
+    drop((trace, clean));
+    other_ids(rounds, &mut table);
     searches(rounds);
     worst(rounds);
+}
+
+/// The mixed trace with other identifiers. The index looks at them only under a filter.
+fn other_ids(rounds: u32, table: &mut [u64]) {
+    for (name, ids) in [("ids of three letters and a zero byte", Ids::Short), ("ids with a letter above 7F", Ids::Wide)] {
+        let trace = traces::mixed(SIZE, 7, true, ids);
+        let (bytes, config) = filters(4, "APP", ids);
+        row(&format!("dlt_message, {name}"), trace.len(), "dlt-core", in_turn(rounds, || ours_messages(&trace, &[], false), || core_messages(&trace, None)));
+        row("dlt_message, the same, filter of three sets of 4", trace.len(), "dlt-core", in_turn(rounds, || ours_messages(&trace, &bytes, false), || core_messages(&trace, Some(&config))));
+        row("index, the same, filter of three sets of 4", trace.len(), "dlt-core", in_turn(rounds, || ours_indexed(&trace, &bytes, table), || core_indexed(&trace, Some(&config))));
+    }
 }
 
 fn searches(rounds: u32) {
@@ -282,7 +296,7 @@ fn worst(rounds: u32) {
     ] {
         row(&format!("dlt_message, {name}"), bytes.len(), "dlt-core", in_turn(rounds, || ours_messages(&bytes, &[], false), || core_messages(&bytes, None)));
     }
-    let small = traces::mixed(SIZE / 16, 7, true);
-    let (bytes, config) = filters(64, "APP");
+    let small = traces::mixed(SIZE / 16, 7, true, Ids::Letters);
+    let (bytes, config) = filters(64, "APP", Ids::Letters);
     row("dlt_message, filter of three sets of 64", small.len(), "dlt-core", in_turn(rounds, || ours_messages(&small, &bytes, false), || core_messages(&small, Some(&config))));
 }

@@ -25,11 +25,40 @@ fn bytes(out: &mut Vec<u8>, rng: &mut Rng, count: u64) {
     }
 }
 
+/// What a trace's identifiers are made of.
+#[derive(Clone, Copy)]
+pub enum Ids {
+    /// Four letters.
+    Letters,
+    /// Three letters and a zero byte.
+    Short,
+    /// A letter of two bytes and two of one.
+    Wide,
+}
+
+impl Ids {
+    pub fn id(self, front: &str, n: u64) -> String {
+        match self {
+            Ids::Letters => format!("{front}{n}"),
+            Ids::Short => format!("{}{n}", &front[..2]),
+            Ids::Wide => format!("Ä{}{n}", &front[..1]),
+        }
+    }
+}
+
+/// An identifier as a message and a filter have it.
+pub fn padded(id: &str) -> [u8; 4] {
+    let mut bytes = [0; 4];
+    bytes[..id.len()].copy_from_slice(id.as_bytes());
+    bytes
+}
+
 /// The parts of a message that its payload doesn't decide.
 pub struct Frame {
     pub big: bool,
     /// Message info and argument count.
     pub extended: Option<(u8, u8)>,
+    pub ids: Ids,
 }
 
 /// A message with its storage header, all optional fields and this payload.
@@ -37,17 +66,18 @@ pub fn message(out: &mut Vec<u8>, rng: &mut Rng, frame: &Frame, payload: &[u8]) 
     out.extend(b"DLT\x01");
     bytes(out, rng, 4);
     out.extend((rng.below(1_000_000) as u32).to_le_bytes());
-    out.extend(b"ECU1");
+    let ecu = padded(&frame.ids.id("ECU", 1));
+    out.extend(ecu);
     let length = 16 + if frame.extended.is_some() { 10 } else { 0 } + payload.len();
     out.push(0x3C | u8::from(frame.big) << 1 | u8::from(frame.extended.is_some()));
     out.push(rng.next() as u8);
     out.extend((length as u16).to_be_bytes());
-    out.extend(b"ECU1");
+    out.extend(ecu);
     bytes(out, rng, 8);
     if let Some((info, count)) = frame.extended {
         out.extend([info, count]);
-        out.extend(format!("APP{}", rng.below(4)).bytes());
-        out.extend(b"CTX1");
+        out.extend(padded(&frame.ids.id("APP", rng.below(4))));
+        out.extend(padded(&frame.ids.id("CTX", 1)));
     }
     out.extend(payload);
 }
@@ -73,7 +103,7 @@ fn integer(out: &mut Vec<u8>, rng: &mut Rng, big: bool) {
 }
 
 /// 70 % verbose logs with 1 to 4 string and integer arguments, 20 % non-verbose, 10 % control, a little junk if wanted.
-pub fn mixed(size: usize, seed: u64, junk: bool) -> Vec<u8> {
+pub fn mixed(size: usize, seed: u64, junk: bool, ids: Ids) -> Vec<u8> {
     let mut rng = Rng::new(seed);
     let mut out = Vec::with_capacity(size + 1000);
     let mut payload = Vec::new();
@@ -104,7 +134,7 @@ pub fn mixed(size: usize, seed: u64, junk: bool) -> Vec<u8> {
             bytes(&mut payload, &mut rng, count);
             extended = Some((0x26, 0));
         }
-        message(&mut out, &mut rng, &Frame { big, extended }, &payload);
+        message(&mut out, &mut rng, &Frame { big, extended, ids }, &payload);
     }
     out
 }
@@ -124,7 +154,7 @@ pub fn repeated(size: usize, one: &[u8]) -> Vec<u8> {
 pub fn many_arguments() -> Vec<u8> {
     let payload: Vec<u8> = (0..255).flat_map(|i| [0x41, 0, 0, 0, i as u8]).collect();
     let mut out = Vec::new();
-    message(&mut out, &mut Rng::new(1), &Frame { big: false, extended: Some((0x41, 255)) }, &payload);
+    message(&mut out, &mut Rng::new(1), &Frame { big: false, extended: Some((0x41, 255)), ids: Ids::Letters }, &payload);
     out
 }
 
@@ -135,7 +165,7 @@ pub fn long_string() -> Vec<u8> {
     payload[4..6].copy_from_slice(&(length as u16).to_le_bytes());
     payload.resize(6 + length, b'x');
     let mut out = Vec::new();
-    message(&mut out, &mut Rng::new(1), &Frame { big: false, extended: Some((0x41, 1)) }, &payload);
+    message(&mut out, &mut Rng::new(1), &Frame { big: false, extended: Some((0x41, 1)), ids: Ids::Letters }, &payload);
     out
 }
 
@@ -147,7 +177,7 @@ pub fn random(size: usize, seed: u64) -> Vec<u8> {
 /// Short messages that count an argument whose bytes run far past the declared end: a string of 65,535 bytes, or as many as there are.
 pub fn past_the_end(size: usize) -> Vec<u8> {
     let mut one = Vec::new();
-    message(&mut one, &mut Rng::new(1), &Frame { big: false, extended: Some((0x41, 40)) }, &[]);
+    message(&mut one, &mut Rng::new(1), &Frame { big: false, extended: Some((0x41, 40)), ids: Ids::Letters }, &[]);
     one.extend([0, 0x82, 0, 0, 0xFF, 0xFF]);
     repeated(size, &one)
 }
