@@ -181,9 +181,6 @@ module _ (s : List ℕ) (at k p : ℕ) (place : p ≡ at + k) where
       let c : told (k + w) s at ≡ k + (w + valued (4 - k - w) s (p + w)) = rw (a, b) (omega arith) in
       c ∙ rest-told (w + valued (4 - k - w) s (p + w)) (sym (valued-more (4 - k) s p w z e q))
 
-  zero-ends : k < 4 → getD s p 0 ≡ 0 → k ≡ told k s at
-  zero-ends h e = omega (arith, rest-told 0 (sym (valued-zero (4 - k) s p (omega arith) e)))
-
   letter-passes : k < 4 → letter (getD s p 0) ≡ true → told (k + 1) s at ≡ told k s at
   letter-passes h e =
       let b = letter-is (getD s p 0) e in
@@ -221,7 +218,7 @@ module _ (s : List ℕ) (p : ℕ) (t : Bool) (said : t ≡ letter (getD s p 0)) 
 
 module _ (s : List ℕ) (at : ℕ) where
   ends-at-zero : (k : ℕ) → getD s (at + k) 0 ≡ 0 → k < 4 → k ≡ told k s at
-  ends-at-zero k e h = zero-ends s at k (at + k) refl h e
+  ends-at-zero k e h = omega (arith, rest-told s at k (at + k) refl 0 (sym (valued-zero (4 - k) s (at + k) (omega arith) e)))
 
   -- nothing is told before the first byte
   from-the-first : told 0 s at ≡ valued 4 s at

@@ -337,8 +337,7 @@ fn id_need(s: &[u8], at: usize, rest: usize) -> usize
     }
 }
 
-// An identifier: a string of size 4. Most values have all four bytes; where they are answered by themselves, the answer doesn't wait for the
-// last byte.
+// An identifier: a string of size 4. Most values have all four bytes; answered by themselves they are quicker (docs/DECISIONS.md).
 pub fn identifier(s: &[u8], at: usize) -> RangeAns
     ensures { λ r. ⌜ rangeAns r ≡ identified (now (s .entry)) at ⌝ }
 {
