@@ -5,14 +5,14 @@ use super::messages::request;
 use super::random::Rng;
 use super::{every_string, Emit, Section};
 
-/// The bytes that UTF-8 and the zero byte tell apart: the first and the last of each class, and an ordinary letter.
+/// Of each class of bytes that UTF-8 and the zero byte tell apart the first and the last, and an ordinary letter.
 const CLASSES: [u8; 26] = [
     0x00, 0x01, 0x41, 0x7f, 0x80, 0x8f, 0x90, 0x9f, 0xa0, 0xbf, 0xc0, 0xc1, 0xc2, 0xdf, 0xe0, 0xe1, 0xec, 0xed, 0xee,
     0xef, 0xf0, 0xf1, 0xf3, 0xf4, 0xf5, 0xff,
 ];
 
 /// One for each way through the rule: zero bytes, letters, sequences of two to four, whole, cut and not well-formed.
-const EXAMPLES: [&[u8]; 36] = [
+const EXAMPLES: [&[u8]; 38] = [
     b"",
     b"A",
     b"\0",
@@ -29,6 +29,8 @@ const EXAMPLES: [&[u8]; 36] = [
     b"APP\0",
     b"\0ABC",
     b"A\0BC",
+    b"AB\0C",
+    b"AB\xffC",
     b"A\0\xff\xff",
     b"\xc3(\xc3(",
     b"A\xc3\0A",
