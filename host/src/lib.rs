@@ -27,12 +27,55 @@ pub use message::{message, Cursor, ExtendedHeader, Message, MessageType, Parsed,
 pub enum Refusal {
     /// The filter's bytes break a rule.
     BadFilter,
-    /// More bytes could help: at least so many, 0 for unknown.
+    /// More bytes could help: at least so many, 0 for unknown. If the headers are there and the message isn't verbose, exactly so many decide it.
     Incomplete(u64),
-    /// The bytes are no message: document 01's reason.
-    Hickup(u64),
+    /// The bytes are no message, whatever follows.
+    Hickup(Reason),
     /// The payload is too short for what it must hold.
     Unrecoverable,
+}
+
+/// Why bytes are no message: document 01's reasons. It is proved which of them each call gives (crates/reasons), and that 3 comes out of none.
+#[derive(Clone, Copy, Debug, PartialEq, Eq)]
+pub enum Reason {
+    /// 1: the declared length is below the headers.
+    Length,
+    /// 2: a type info word is no type.
+    TypeInfo,
+    /// 4: the pattern is missing.
+    Pattern,
+    /// 5: signal data is too short.
+    SignalShort,
+    /// 6: a signal string is not UTF-8.
+    SignalText,
+    /// 7: a signal of a fixed-point kind.
+    SignalFixedPoint,
+}
+
+impl Reason {
+    /// Every reason, in the order of the numbers.
+    pub const ALL: [Reason; 6] = [Reason::Length, Reason::TypeInfo, Reason::Pattern, Reason::SignalShort, Reason::SignalText, Reason::SignalFixedPoint];
+
+    /// Document 01's number.
+    ///
+    /// ```
+    /// assert_eq!(host::Reason::ALL.map(|reason| reason.number()), [1, 2, 4, 5, 6, 7]);
+    /// ```
+    pub fn number(self) -> u64 {
+        match self {
+            Reason::Length => raw::HICKUP_LENGTH,
+            Reason::TypeInfo => raw::HICKUP_TYPE_INFO,
+            Reason::Pattern => raw::HICKUP_PATTERN,
+            Reason::SignalShort => raw::HICKUP_SIGNAL_SHORT,
+            Reason::SignalText => raw::HICKUP_SIGNAL_TEXT,
+            Reason::SignalFixedPoint => raw::HICKUP_SIGNAL_FIXED_POINT,
+        }
+    }
+
+    fn of(number: u64) -> Reason {
+        // that no other number comes out is proved of each call
+        Reason::ALL.into_iter().find(|reason| reason.number() == number).unwrap_or_else(|| unreachable!("hickup reason {number}"))
+    }
 }
 
 /// A part of the bytes that were given.
@@ -61,7 +104,7 @@ fn refused(answer: raw::Answer) -> Result<(), Refusal> {
         raw::DONE => Ok(()),
         raw::BAD_FILTER => Err(Refusal::BadFilter),
         raw::INCOMPLETE => Err(Refusal::Incomplete(answer.value)),
-        raw::HICKUP => Err(Refusal::Hickup(answer.value)),
+        raw::HICKUP => Err(Refusal::Hickup(Reason::of(answer.value))),
         raw::UNRECOVERABLE => Err(Refusal::Unrecoverable),
         // the slices lent here are as long as they must be
         other => unreachable!("answer number {other}"),
@@ -91,7 +134,7 @@ pub fn forward_to_next_storage_header(bytes: &[u8], at: usize) -> Option<usize> 
 ///
 /// ```
 /// assert_eq!(host::consume_msg(&[]), Ok((None, 0)));
-/// assert_eq!(host::consume_msg(b"DLX"), Err(host::Refusal::Hickup(4)));
+/// assert_eq!(host::consume_msg(b"DLX"), Err(host::Refusal::Hickup(host::Reason::Pattern)));
 /// assert_eq!(host::consume_msg(b"DL"), Err(host::Refusal::Incomplete(1)));
 /// ```
 pub fn consume_msg(bytes: &[u8]) -> Result<(Option<u64>, usize), Refusal> {
@@ -105,7 +148,7 @@ pub fn consume_msg(bytes: &[u8]) -> Result<(Option<u64>, usize), Refusal> {
 /// ```
 /// // an unsigned number of 16 bits
 /// assert_eq!(host::construct_arguments(false, &[0x42], &[0x34, 0x12, 0xFF]), Ok((1, 2)));
-/// assert_eq!(host::construct_arguments(false, &[0x42], &[0x34]), Err(host::Refusal::Hickup(5)));
+/// assert_eq!(host::construct_arguments(false, &[0x42], &[0x34]), Err(host::Refusal::Hickup(host::Reason::SignalShort)));
 /// ```
 pub fn construct_arguments(big: bool, words: &[u32], data: &[u8]) -> Result<(usize, usize), Refusal> {
     let answer = raw::construct(big, words, data);

@@ -95,9 +95,9 @@ pub struct RawCursor {
 /// One message at the front of the bytes, under a filter (document 01, "Filter bytes"; empty for none), with how many bytes were used.
 ///
 /// ```
-/// use host::{message, Parsed, Refusal};
+/// use host::{message, Parsed, Reason, Refusal};
 /// assert_eq!(message(&[0x20, 7, 0, 8, 0], &[], false), Err(Refusal::Incomplete(3)));
-/// assert_eq!(message(&[0x20, 7, 0, 3], &[], false), Err(Refusal::Hickup(1)));
+/// assert_eq!(message(&[0x20, 7, 0, 3], &[], false), Err(Refusal::Hickup(Reason::Length)));
 /// assert_eq!(message(&[0x20, 7, 0, 7, 0, 0, 0], &[], false), Err(Refusal::Unrecoverable));
 /// assert_eq!(message(&[], &[9], false), Err(Refusal::BadFilter));
 /// let (parsed, used) = message(&[0x20, 7, 0, 8, 0, 0, 0, 42], &[], false).unwrap();

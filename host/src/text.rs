@@ -7,7 +7,7 @@ fn refusal(refusal: Refusal) -> String {
     match refusal {
         Refusal::BadFilter => "1".to_string(),
         Refusal::Incomplete(need) => format!("2 {need}"),
-        Refusal::Hickup(reason) => format!("3 {reason}"),
+        Refusal::Hickup(reason) => format!("3 {}", reason.number()),
         Refusal::Unrecoverable => "4".to_string(),
     }
 }

@@ -5,9 +5,16 @@ use mathlib.Core.List.{List, _++_}
 use native.Mathlib.Nat.{one-mul}
 use native.Mathlib.Omega.{arith}
 use lib.ListN.{length, take, drop}
+use mathlib.Core.Bool.{true}
+use Rattle.wire.specs.Answer.Ans.{done}
+use Rattle.filter.specs.Filter.{filterOf}
+use Rattle.filter.specs.declared.Filter.{Filter}
+use Rattle.filter.specs.declared.FilterAns.{FilterAns}
+use Rattle.worth.specs.Lead.{Lead, lead}
+use Rattle.worth.specs.Need.{ByLength}
 use Rattle.walk.specs.Walk.{Ends}
 use Rattle.index.specs.Index.{limit, numberOf, endOf, refused, walkOf, call}
-use Rattle.index.specs.Calls.{unlimited, whole, adding, next, over-trace, calls, joined, repeated, Above, total, SameEntries, Alike}
+use Rattle.index.specs.Calls.{unlimited, whole, adding, next, over-trace, calls, joined, repeated, Above, total, WaitOver, SameEntries, Alike}
 use Rattle.index.specs.declared.State.{State}
 use Rattle.index.specs.declared.End.{End}
 use Rattle.index.proofs.Promises as any
@@ -83,6 +90,14 @@ module _ (f : List ℕ) where
       × (call entryForm f n (s ++ t) st T
       ≡ record { answer = record { state = call entryForm f n s st T .answer .state; taken = call entryForm f n s st T .answer .taken; end = End.Waits u }; table = call entryForm f n s st T .table })
   still-waits = any.still-waits entryForm entry-sound f
+
+  -- and what it is worth
+  pub worth-the-wait : (n : ℕ) (s t : List ℕ) (st : State) (T : List Entry) (v : ℕ) (l : Lead) (behind : ℕ) → st .at + length (s ++ t) ≤ limit
+      → call entryForm f n s st T .answer .end ≡ End.Waits v
+      → lead true (drop (call entryForm f n s st T .answer .state .at - st .at) s) 0 ≡ done l behind
+      → ((filter : Filter) → filterOf f ≡ FilterAns.Good filter → ByLength f filter (drop (call entryForm f n s st T .answer .state .at - st .at) s) l)
+      → length t ≡ v → WaitOver (length T) (call entryForm f n s st T) (call entryForm f n (s ++ t) st T)
+  worth-the-wait = any.worth-the-wait entryForm entry-sound f
 
   -- entries that were written stay, and so do those beyond the ones used
   pub kept-before : (n : ℕ) (s : List ℕ) (st : State) (T : List Entry) → take (st .used) (call entryForm f n s st T .table) ≡ take (st .used) T

@@ -27,6 +27,14 @@
 #define DLT_PAUSED 8
 #define DLT_SHORT_OUT 15
 
+/* A Hickup's reason: these six come out, each from the calls named, and from no other (crates/reasons). There is no 3: every message info is accepted. */
+#define DLT_HICKUP_LENGTH 1             /* the declared length is below the headers: dlt_message, dlt_consume_msg */
+#define DLT_HICKUP_TYPE_INFO 2          /* a type info word is no type: dlt_message, dlt_argument, dlt_raw_value, dlt_construct_arguments, dlt_signal */
+#define DLT_HICKUP_PATTERN 4            /* the pattern is missing: dlt_consume_msg */
+#define DLT_HICKUP_SIGNAL_SHORT 5       /* signal data is too short: dlt_construct_arguments, dlt_signal */
+#define DLT_HICKUP_SIGNAL_TEXT 6        /* a signal string is not UTF-8: the same two */
+#define DLT_HICKUP_SIGNAL_FIXED_POINT 7 /* a signal of a fixed-point kind: the same two */
+
 typedef struct {
     uint64_t number;
     uint64_t value;

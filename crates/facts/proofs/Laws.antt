@@ -29,11 +29,11 @@ use Rattle.parse.specs.declared.Headers.{Headers}
 use Rattle.parse.proofs.Nothing.{headers-of-nothing}
 use Rattle.facts.proofs.At.{LawfulAt, lawful-at, at-lawful, then-at, seen-at, from-at}
 
-maybeExtended-law : (t : Bool) → Lawful (maybeExtended t)
+pub maybeExtended-law : (t : Bool) → Lawful (maybeExtended t)
 unfolding maybeExtended
 maybeExtended-law t = search (laws, extended-law) depth 20
 
-maybe-ids : (b : Bool) (e : OptExtended) (n : ℕ) (s : List ℕ) (at : ℕ) → at ≤ length s → maybeExtended b s at ≡ done e n → IdsIn s e
+pub maybe-ids : (b : Bool) (e : OptExtended) (n : ℕ) (s : List ℕ) (at : ℕ) → at ≤ length s → maybeExtended b s at ≡ done e n → IdsIn s e
 unfolding maybeExtended choose
 maybe-ids true e n s at h q =
     let r = split extended (λ x. ret (OptExtended.Present x)) s at q in

@@ -1,8 +1,8 @@
--- The twelve sums of document 01 that are marked P, in one statement. They compute.
+-- The twelve sums of document 01 that are marked P, in one statement, and some of needs and reasons. They compute.
 use Prim.Native.Nat.{ℕ, suc}
 use mathlib.Core.Path.{_≡_, refl}
 use mathlib.Core.Bool.{Bool, true, false}
-use mathlib.Core.List.{List, [], _∷_}
+use mathlib.Core.List.{List, [], _∷_, _++_}
 use lib.ListN.{replicate}
 use Rattle.wire.specs.Answer.{Ans, Carried, Numbered}
 use Rattle.wire.specs.Answer.Ans.{done, need, hickup, broken}
@@ -110,6 +110,22 @@ p1 = 0x20 ∷ 0x07 ∷ 0x00 ∷ 0x08 ∷ 0x00 ∷ 0x00 ∷ 0x00 ∷ 0x2A ∷ []
 abbrev pub p2 : List ℕ
 p2 = 0x22 ∷ 0x07 ∷ 0x00 ∷ 0x08 ∷ 0x00 ∷ 0x00 ∷ 0x00 ∷ 0x2A ∷ []
 
-pub p2-says : (s : List ℕ) → ofAnswer (messageOf [] false p2) s ≡ item-of (Sum.id 42) 8
+-- a verbose message of one argument, of whose one declared payload byte nothing is there; and one whose type info word is no type
+abbrev pub v1 : List ℕ
+v1 = 0x21 ∷ 0x00 ∷ 0x00 ∷ 0x0F ∷ 0x41 ∷ 0x01 ∷ 0x41 ∷ 0x50 ∷ 0x50 ∷ 0x00 ∷ 0x43 ∷ 0x54 ∷ 0x58 ∷ 0x00 ∷ []
+
+abbrev pub v2 : List ℕ
+v2 = 0x21 ∷ 0x00 ∷ 0x00 ∷ 0x12 ∷ 0x41 ∷ 0x01 ∷ 0x41 ∷ 0x50 ∷ 0x50 ∷ 0x00 ∷ 0x43 ∷ 0x54 ∷ 0x58 ∷ 0x00 ∷ 0x30 ∷ 0x00 ∷ 0x00 ∷ 0x00 ∷ []
+
+pub others :
+    ((s : List ℕ) → ofAnswer (messageOf [] false p2) s ≡ item-of (Sum.id 42) 8)
+    × (sum false v1 ≡ needs 1)  -- the declared byte
+    × (sum false (v1 ++ 0x00 ∷ []) ≡ needs 3)  -- and with it, the rest of the type info word
+    × (sum false (0x20 ∷ []) ≡ needs 1)
+    × (sum false (0x20 ∷ 0x00 ∷ []) ≡ needs 2)
+    × (sum false v2 ≡ hickups 2)
 unfolding messageOf judged filterOf filter field tagNext sets counts lastCount ending filterWith message routed choose headers _>>=_ here standard number fixed having asking numberOf flagged maybeId maybeNumber identified text textOf validUpTo upTo sequence among formed ret refuse headerOf endianOf allHeaders overallLength headerTypeByte finished maybeExtended extended named extendedOf knownLevel logLevelOf messageTypeBy havingFrom seen headersOf filteredOut dropsPlain dropsExtended dropsLevel dropsId dropsEcu shortSet body item passed itemOf payload isVerbose isControl controlType networkType countOf isNetwork isBig verbose listOf control plain bytes fail storage marked find firstOf standsAt stored owned arguments times turn argument typeInfo decoded kinded boolean maybeName typeInfoOf kindBy codingOf numeric
-p2-says s = refl
+others = (λ s. refl, refl, refl, refl, refl, refl)
+
+pub p2-says : (s : List ℕ) → ofAnswer (messageOf [] false p2) s ≡ item-of (Sum.id 42) 8
+p2-says = others .0

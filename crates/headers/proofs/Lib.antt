@@ -2,3 +2,4 @@ pub mod Reading
 pub mod Laws
 pub mod Determined
 pub mod Inverse
+pub mod Ends

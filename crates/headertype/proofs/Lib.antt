@@ -1,3 +1,4 @@
 pub mod Every
 pub mod Reading
 pub mod Again
+pub mod Lengths

@@ -11,10 +11,11 @@
 --     zero-keeps     a call that stops after 0 changes nothing
 --     zero-pauses    and unless it is refused it is Paused
 --     still-waits    fewer bytes than the need: nothing is written, and it waits where it did
+--     worth-the-wait exactly the need, of a message that ends by its length: an entry more, or Full
 --     kept-before    entries that were written stay
 --     kept-behind    entries beyond those used keep what they held
 -- Assumes nothing.
-use Prim.Native.Nat.{ℕ, _+_, _-_, _*_, _≤_, _<_}
+use Prim.Native.Nat.{ℕ, zero, suc, _+_, _-_, _*_, _≤_, _<_}
 use mathlib.Core.Path.{_≡_, refl, sym, ap, _∙_}
 use mathlib.Core.Bool.{Bool, true, false}
 use mathlib.Core.List.{List, [], _∷_, _++_, append-nil, append-assoc}
@@ -24,12 +25,13 @@ use lib.ListN.{length, take, drop, length-append, length-drop}
 use lib.Seq.{drop-append-le, drop-drop}
 use lib.Dec.{ltb}
 use borrow.Author.Tests.{le-ltb, ltb-true, ltb-false}
+use Rattle.wire.specs.Answer.Ans.{done}
 use Rattle.table.specs.Over.{over}
 use Rattle.table.proofs.Laws.{over-none, over-length, over-before, over-behind}
-use Rattle.walk.specs.Walk.{Entry, Ends, Waits, Out, stop, after, run, walk}
+use Rattle.walk.specs.Walk.{Entry, Step, Take, Ends, Waits, Out, stop, after, turn, run, walk}
 use Rattle.walk.specs.Walk as walking
 use Rattle.walk.specs.Table.{flat, finish}
-use Rattle.walk.proofs.Laws.{walked, adds-up, counts, bounds, enough}
+use Rattle.walk.proofs.Laws.{walked, adds-up, counts, bounds, enough, waits-at}
 use Rattle.walk.proofs.Calls.{demand3}
 use Rattle.walk.proofs.Calls as walks
 use Rattle.walk.proofs.Going.{flat-length, finish-after}
@@ -37,9 +39,11 @@ use Rattle.filter.specs.Filter.{filterOf}
 use Rattle.filter.specs.declared.Filter.{Filter}
 use Rattle.filter.specs.declared.FilterAns.{FilterAns}
 use Rattle.step.specs.Step.{asked}
-use Rattle.step.proofs.Fair.{fair, patient}
+use Rattle.step.proofs.Fair.{fair, patient, worth-an-entry}
+use Rattle.worth.specs.Lead.{Lead, lead}
+use Rattle.worth.specs.Need.{ByLength}
 use Rattle.index.specs.Index.{limit, Form, Sound, numberOf, Outcome, refused, shown, laid, endOf, walkOf, ahead, checked, call}
-use Rattle.index.specs.Calls.{unlimited, whole, adding, next, over-trace, calls, joined, unless-paused, repeated, Above, total}
+use Rattle.index.specs.Calls.{unlimited, whole, adding, next, over-trace, calls, joined, unless-paused, repeated, Above, total, WaitOver}
 use Rattle.index.specs.declared.State.{State}
 use Rattle.index.specs.declared.End.{End}
 use Rattle.index.proofs.Laws.{bad-filter, good-filter, bad-state, too-long, goes-ahead}
@@ -359,11 +363,16 @@ module _ {A : Type 0} (form : Form A) (sound : Sound form) (f : List ℕ) where
 
   -- ---- what a need is for
 
-  -- a walk that waits behind entries
-  laid-waits : (T : List A) (used u : ℕ) (o o′ : Out ℕ ℕ) → o′ ≡ after (o .entries) (stop (o .at) (Ends.Waits u))
+  -- a walk that stops behind entries
+  laid-stops : (T : List A) (used : ℕ) (e : Ends ℕ) (o o′ : Out ℕ ℕ) → o′ ≡ after (o .entries) (stop (o .at) e)
       → laid form T used o′
-      ≡ record { answer = record { state = laid form T used o .answer .state; taken = length (o .entries); end = End.Waits u }; table = laid form T used o .table }
-  laid-waits T used u o o′ e = rw (e, append-nil)
+      ≡ record { answer = record { state = laid form T used o .answer .state; taken = length (o .entries); end = endOf e }; table = laid form T used o .table }
+  laid-stops T used e o o′ q = rw (q, append-nil)
+
+  waiting : (e : Ends ℕ) (v : ℕ) → endOf e ≡ End.Waits v → e ≡ Ends.Waits v
+  waiting Ends.Paused v z = absurd (omega (arith, ap numberOf z))
+  waiting Ends.Full v z = absurd (omega (arith, ap numberOf z))
+  waiting (Ends.Waits m) v z = cc
 
   -- fewer bytes than the need, and nothing is written, and it waits where it did
   pub still-waits : (n : ℕ) (s t : List ℕ) (st : State) (T : List A) (v : ℕ) → st .at + length (s ++ t) ≤ limit → call form f n s st T .answer .end ≡ End.Waits v → length t < v
@@ -371,11 +380,6 @@ module _ {A : Type 0} (form : Form A) (sound : Sound form) (f : List ℕ) where
       × (call form f n (s ++ t) st T ≡ record { answer = record { state = call form f n s st T .answer .state; taken = call form f n s st T .answer .taken; end = End.Waits u }; table = call form f n s st T .table })
   still-waits n s t st T v l w few = by (came n s st T)
     where
-      waiting : (e : Ends ℕ) → endOf e ≡ End.Waits v → e ≡ Ends.Waits v
-      waiting Ends.Paused z = absurd (omega (arith, ap numberOf z))
-      waiting Ends.Full z = absurd (omega (arith, ap numberOf z))
-      waiting (Ends.Waits m) z = cc
-
       so : ℕ → Outcome A → Outcome A
       so u x = record { answer = record { state = x .answer .state; taken = x .answer .taken; end = End.Waits u }; table = x .table }
 
@@ -385,12 +389,57 @@ module _ {A : Type 0} (form : Form A) (sound : Sound form) (f : List ℕ) where
       by (yes filter h m g q) =
           let o = out form sound f filter n s st T in
           let is = q n ∙ ahead-so form sound f filter n s st T in
-          let z : o .ends ≡ Ends.Waits v = waiting (o .ends) (sym (ap (λ (x : Outcome A). x .answer .end) is) ∙ w) in
+          let z : o .ends ≡ Ends.Waits v = waiting (o .ends) v (sym (ap (λ (x : Outcome A). x .answer .end) is) ∙ w) in
           let (u, e) = walks.still-waits (asked f filter) (fair f filter) (λ v. v) (patient f filter) n (form .holds (length T)) (st .at) (st .used) s t v z few in (
             u,
             g n (s ++ t) st T
                 ∙ goes-ahead form f n (s ++ t) st T filter h (le-ltb _ _ l)
                 ∙ ahead-so form sound f filter n (s ++ t) st T
-                ∙ laid-waits T (st .used) u o (walkOf f filter n (s ++ t) st (form .holds (length T))) e
+                ∙ laid-stops T (st .used) (Ends.Waits u) o (walkOf f filter n (s ++ t) st (form .holds (length T))) e
                 ∙ ap (so u) (sym is),
           )
+
+  module _ (n : ℕ) (s t : List ℕ) (st : State) (T : List A) (filter : Filter) (h : st .used ≤ form .holds (length T)) (l : st .at + length (s ++ t) ≤ limit)
+      (is : (x : List ℕ) → st .at + length x ≤ limit → call form f n x st T ≡ laid form T (st .used) (out form sound f filter n x st T)) where
+    abbrev before : Out ℕ ℕ
+    before = out form sound f filter n s st T
+
+    short : st .at + length s ≤ limit
+    short = omega (arith, length-append s t)
+
+    -- with room for an entry or without
+    past : (k len i room : ℕ) (go : ℕ → ℕ → Out ℕ ℕ) → form .holds (length T) - st .used - length (before .entries) ≡ room
+        → out form sound f filter n (s ++ t) st T ≡ after (before .entries) (turn (Take k len i) room (before .at) go) → WaitOver (form .holds (length T)) (call form f n s st T) (call form f n (s ++ t) st T)
+    past k len i zero go r e =
+        WaitOver.none-free (omega (arith, ap (λ (o : Outcome A). o .answer .state .used) (is s short), r, room form sound f filter n s st T h))
+        (is (s ++ t) l ∙ laid-stops T (st .used) Ends.Full before (out form sound f filter n (s ++ t) st T) e ∙ sym (ap so (is s short)))
+      where
+        so : Outcome A → Outcome A
+        so x = record { answer = record { state = x .answer .state; taken = x .answer .taken; end = End.Full }; table = x .table }
+    past k len i (suc r′) go r e =
+        WaitOver.one-more (omega (arith, ap (λ (o : Outcome A). o .answer .state .used) (is s short), ap (λ (o : Outcome A). o .answer .state .used) (is (s ++ t) l),
+        ap (λ (o : Out ℕ ℕ). length (o .entries)) e, length-append (before .entries) (turn (Take k len i) (suc r′) (before .at) go .entries)))
+
+  -- where the call waits with need v and the headers that stand there are read, of a message that ends by its length: exactly v bytes more, of any value
+  pub worth-the-wait : (n : ℕ) (s t : List ℕ) (st : State) (T : List A) (v : ℕ) (l : Lead) (behind : ℕ) → st .at + length (s ++ t) ≤ limit
+      → call form f n s st T .answer .end ≡ End.Waits v
+      → lead true (drop (call form f n s st T .answer .state .at - st .at) s) 0 ≡ done l behind
+      → ((filter : Filter) → filterOf f ≡ FilterAns.Good filter → ByLength f filter (drop (call form f n s st T .answer .state .at - st .at) s) l)
+      → length t ≡ v → WaitOver (form .holds (length T)) (call form f n s st T) (call form f n (s ++ t) st T)
+  worth-the-wait n s t st T v l behind g w read c enough = by (came n s st T) (filterOf f) refl
+    where
+      by : Came n s st T → (x : FilterAns) → filterOf f ≡ x → WaitOver (form .holds (length T)) (call form f n s st T) (call form f n (s ++ t) st T)
+      by (no e a b q) x z = absurd (omega (arith, ap numberOf (sym (ap (λ (o : Outcome A). o .answer .end) (q n s)) ∙ w)))
+      by (long m q) x z = absurd (omega (arith, length-append s t))
+      by (yes _ h m _ _) FilterAns.Bad z = absurd (omega (arith, ap numberOf (sym (ap (λ (o : Outcome A). o .answer .end) (bad-filter form f n s st T (filterOf f) refl z)) ∙ w)))
+      by (yes _ h m _ _) (FilterAns.Good filter) z =
+          let is : (x : List ℕ) → st .at + length x ≤ limit → call form f n x st T ≡ laid form T (st .used) (out form sound f filter n x st T) =
+            λ x y. good-filter form f n x st T (filterOf f) filter refl z ∙ goes-ahead form f n x st T filter h (le-ltb _ _ y) ∙ ahead-so form sound f filter n x st T in
+          let o = out form sound f filter n s st T in
+          let at : call form f n s st T .answer .state .at ≡ o .at = ap (λ (x : Outcome A). x .answer .state .at) (is s m) in
+          let ends : o .ends ≡ Ends.Waits v = waiting (o .ends) v (sym (ap (λ (x : Outcome A). x .answer .end) (is s m)) ∙ w) in
+          let left = drop (o .at - st .at) s in
+          let waits = waits-at (asked f filter) v (walked (asked f filter) n (form .holds (length T) - st .used) (st .at) s) ends in
+          let (k, len, i, e) = worth-an-entry f filter left v l behind waits (rw at at read) (rw at at (c filter z)) t enough in
+          let (m′, p) = walks.goes-past (asked f filter) (fair f filter) n (form .holds (length T)) (st .at) (st .used) s t v ends e in
+          past n s t st T filter h g is k len i _ _ refl p

@@ -69,6 +69,12 @@ abbrev pub total : List ℕ → ℕ
 total [] = 0
 total (n ∷ ns) = n + total ns
 
+-- A call that waited, and the same call with more bytes, over a table that holds so many entries. The wait is over: an entry more is written, or none was
+-- free, and it is Full where it waited
+pub data WaitOver {A : Type 0} (size : ℕ) (a b : Outcome A) : Type 0 where
+  one-more : a .answer .state .used < b .answer .state .used → WaitOver size a b
+  none-free : a .answer .state .used ≡ size → b ≡ record { answer = record { state = a .answer .state; taken = a .answer .taken; end = End.Full }; table = a .table } → WaitOver size a b
+
 -- two tables of one length with the same first n entries, whatever stands behind them
 pub record SameEntries {A : Type 0} (form : Form A) (n : ℕ) (T U : List A) : Type 0 where
   pub as-long : length U ≡ length T

@@ -1,5 +1,5 @@
 -- Document 01, step 4: the message info byte. Bit 0 is verbose, bits 1 to 3 the type, 4 to 7 the subtype.
--- Every byte has a message type, so Hickup 3 never comes out.
+-- Every byte has a message type: none is refused (reasons, `no-info-refused`).
 use Prim.Native.Nat.{ℕ, _+_, _*_, _/_, _%_}
 use lib.Dec.{eqb}
 use Rattle.wire.specs.Parser.{pick}

@@ -1,13 +1,13 @@
 -- Where all bytes of the headers are there, the rules give the fields at their places: `standard`, `extended`, `headers`, `storage` and `routed`.
 -- Assumes nothing.
-use Prim.Native.Nat.{ℕ, zero, suc, _+_, _-_, _*_, _/_, _%_, _≤_, _<_}
+use Prim.Native.Nat.{ℕ, _+_, _-_, _*_, _/_, _%_, _≤_, _<_}
 use native.Mathlib.Omega.{arith}
 use native.Mathlib.Nat.{sub-zero}
 use mathlib.Core.Path.{_≡_, refl, sym, ap, _∙_}
 use mathlib.Core.Bool.{Bool, true, false}
 use mathlib.Core.List.{List}
 use lib.ListN.{length, getD}
-use lib.Dec.{leb, eqb}
+use lib.Dec.{leb}
 use borrow.Author.Tests.{le-leb, lt-leb}
 use Rattle.wire.specs.Answer.{Ans, Parser}
 use Rattle.wire.specs.Answer.Ans.{done, need, hickup, broken}
@@ -25,6 +25,7 @@ use Rattle.headertype.specs.declared.OptNum.{OptNum}
 use Rattle.headertype.specs.declared.OptRange.{OptRange}
 use Rattle.headertype.specs.declared.StandardHeader.{StandardHeader}
 use Rattle.headertype.proofs.Again.{overall}
+use Rattle.headertype.proofs.Lengths.{one-bit}
 use Rattle.headers.specs.Standard.{maybeId, maybeNumber, endianOf, headerOf, flagged, standard}
 use Rattle.headers.specs.Extended.{extendedOf, named, extended}
 use Rattle.storage.specs.Storage.{fromMark, marked, storedOf, owned, stored, storage}
@@ -131,14 +132,6 @@ module _ (s : List ℕ) (at : ℕ) (there : at + 10 ≤ length s) where
   maybe-extended false = ret-is OptExtended.Absent s at
 
 -- ---- a header's length is the one that was declared
-one-bit : (p x : ℕ) → oneIf (flag p x) ≡ bit p x
-one-bit p x = by (x / p % 2) (omega arith)
-  where
-    by : (b : ℕ) → b < 2 → oneIf (eqb b 1) ≡ b
-    by zero h = refl
-    by (suc zero) h = refl
-    by (suc (suc b)) h = absurd (omega arith)
-
 big-bit : (t : ℕ) → bigBit (endianOf t) ≡ bit 2 t
 unfolding endianOf
 big-bit t = by (flag 2 t) ∙ one-bit 2 t

@@ -13,7 +13,7 @@ use Rattle.storage.specs.declared.OptStored.{OptStored}
 use Rattle.filter.specs.declared.Filter.{Filter}
 use Rattle.parse.specs.Message.{headers}
 
-standard-of-nothing : (s : List ℕ) → standard s (length s) ≡ need 1
+pub standard-of-nothing : (s : List ℕ) → standard s (length s) ≡ need 1
 unfolding standard number
 standard-of-nothing s =
     let z : lacking 1 s (length s) ≡ 1 = omega arith in

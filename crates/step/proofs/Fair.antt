@@ -21,8 +21,11 @@ use Rattle.parse.specs.Message.{routed, body, message}
 use Rattle.parse.specs.declared.Headers.{Headers}
 use Rattle.parse.specs.declared.ParsedMessage.{ParsedMessage}
 use Rattle.facts.proofs.Laws.{routed-law, message-stable, message-honest}
+use Rattle.worth.specs.Lead.{Lead, lead}
+use Rattle.worth.specs.Need.{ByLength, Decided}
+use Rattle.worth.proofs.Worth.{worth, of-step-5}
 use Rattle.walk.specs.Walk.{Step, Wait, Take, Fair}
-use Rattle.step.specs.Step.{skippedTo, lengthOf, heard, asked}
+use Rattle.step.specs.Step.{itemKind, filteredKind, unrecoverableKind, skippedTo, lengthOf, heard, asked}
 use Rattle.step.proofs.Place.{Placed, placed, no-pattern}
 
 -- two steps that are one
@@ -124,3 +127,19 @@ unfolding asked
 patient f filter s t n e few =
     let more = message f filter true (s ++ t) 0 in
     waits f filter s more _ _ (of-two more (message-honest f filter true s t n (ap numbered (waiting f filter s _ _ (message f filter true s 0) e)) few))
+
+-- what a need is worth to the walk: where it waits and the headers are read of a message that ends by its length, exactly the need in bytes of any value
+-- brings an entry
+taken : (a b all : ℕ) (x : Ans ParsedMessage) → Decided all x → (k : ℕ) × (l : ℕ) × (i : ℕ) × (heard a b x ≡ Take k l i)
+taken a b all (done (ParsedMessage.Item m) n) d = (a, b, itemKind, refl)
+taken a b all (done (ParsedMessage.FilteredOut m) n) d = (a, b, filteredKind, refl)
+taken a b all (need n) d = absurd d
+taken a b all (hickup r) d = absurd d
+taken a b all broken d = (a, 4, unrecoverableKind, refl)
+
+pub worth-an-entry : (f : List ℕ) (filter : Filter) (s : List ℕ) (n : ℕ) (l : Lead) (behind : ℕ) → asked f filter s ≡ Wait n → lead true s 0 ≡ done l behind → ByLength f filter s l
+    → (more : List ℕ) → length more ≡ n → (k : ℕ) × (len : ℕ) × (i : ℕ) × (asked f filter (s ++ more) ≡ Take k len i)
+unfolding asked
+worth-an-entry f filter s n l behind e read c more enough =
+    let short = of-step-5 f filter true s n l behind read (waiting f filter s _ _ (message f filter true s 0) e) c in
+    taken _ _ _ (message f filter true (s ++ more) 0) (worth f filter true s n l short c more enough)

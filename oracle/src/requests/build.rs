@@ -325,7 +325,7 @@ pub fn filter_field(tag: u8, value: &[u8]) -> Vec<u8> {
 }
 
 /// A set of different identifiers.
-fn id_set(rng: &mut Rng) -> Vec<u8> {
+pub fn id_set(rng: &mut Rng) -> Vec<u8> {
     let chosen = rng.byte();
     let chosen = (0..8).filter(|place| chosen >> place & 1 == 1);
     chosen.flat_map(|place| FILTER_IDS[place]).collect()

@@ -5,12 +5,12 @@
 //! are the few cases that even the shortest list must have.
 
 mod bad;
-mod build;
+pub mod build;
 mod fields;
 mod identifiers;
 mod index;
-mod messages;
-mod random;
+pub mod messages;
+pub mod random;
 mod signals;
 mod strings;
 

@@ -1,0 +1,3 @@
+pub mod Gives
+pub mod Rules
+pub mod Calls

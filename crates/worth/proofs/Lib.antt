@@ -1,0 +1,7 @@
+pub mod Lead
+pub mod Ends
+pub mod Decided
+pub mod Worth
+pub mod Whole
+pub mod Examples
+pub mod Invalid

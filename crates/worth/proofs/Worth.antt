@@ -1,0 +1,181 @@
+-- WHAT A NEED IS WORTH, of the message rule under any good filter, in both modes:
+--     given           where declared bytes are missing behind headers that were read (`Short`), the answer is Incomplete, and their number is the need
+--     worth           with exactly so many more bytes, of any value, a message that ends by its declared length is decided, and every byte is used
+--     worth-its-need  the same in the words of the request: the message isn't verbose
+--     no-less         and fewer bytes than these leave it Incomplete, whatever the message: there is no lesser number
+--     whose           every need is that of steps 2 to 4, or step 5's, or that of the arguments of a verbose message that isn't dropped
+-- Assumes nothing.
+use Prim.Native.Nat.{ℕ, _+_, _-_, _≤_, _<_, zero-le}
+use native.Mathlib.Omega.{arith}
+use mathlib.Core.Path.{_≡_, refl, sym, ap, _∙_, subst}
+use mathlib.Core.Bool.{Bool, true, false}
+use mathlib.Core.List.{List, _++_}
+use lib.ListN.{length, length-append}
+use lib.Dec.{leb}
+use borrow.Author.Tests.{le-leb, lt-leb, leb-true, leb-false}
+use Rattle.wire.specs.Answer.{Ans, Parser, Carried, Numbered, numbered}
+use Rattle.wire.specs.Answer.Ans.{done, need, hickup, broken}
+use Rattle.wire.specs.Parser.{pick, lacking, _>>=_}
+use Rattle.wire.specs.Lawful.{Kept}
+use Rattle.wire.proofs.Step.{ends, then-done, then-need, then-hickup, then-broken}
+use Rattle.headertype.specs.HeaderType.{allHeaders, headerTypeByte, overallLength}
+use Rattle.filter.specs.declared.Filter.{Filter}
+use Rattle.filtering.specs.FilteredOut.{filteredOut}
+use Rattle.filtering.proofs.Stable.{filtered-same}
+use Rattle.payload.specs.Payload.{isVerbose}
+use Rattle.parse.specs.Message.{havingFrom, seen, headersOf, routed, body, message}
+use Rattle.parse.specs.declared.Headers.{Headers}
+use Rattle.parse.specs.declared.ParsedMessage.{ParsedMessage}
+use Rattle.facts.proofs.Laws.{message-honest}
+use Rattle.worth.specs.Lead.{Lead, lead}
+use Rattle.worth.specs.Need.{Short, ByLength, Whose, Decided}
+use Rattle.worth.proofs.Lead.{check, routed-is, lead-law}
+use Rattle.worth.proofs.Ends.{parts, lead-ends, ecu-in, ids-in}
+use Rattle.worth.proofs.Decided.{dropped-decided, quiet-decided}
+
+-- ---- step 5 by itself: the declared bytes are there, or they aren't
+module _ {A : Type 0} (start n : ℕ) (s : List ℕ) (at : ℕ) where
+  lacks : (p : Parser A) (m : ℕ) → length s - start + m ≡ n → 0 < m → havingFrom start n p s at ≡ need m
+  unfolding havingFrom
+  lacks p m e h =
+      let z : lacking n s start ≡ m = omega arith in
+      rw (lt-leb n (length s - start) (omega arith)) (ap need z)
+
+  stands : (f : List ℕ → A) → n ≤ length s - start → havingFrom start n (seen f) s at ≡ done (f s) at
+  unfolding havingFrom seen
+  stands f h = rw (le-leb n (length s - start) h)
+
+-- ---- where the headers are read
+module _ (t : Bool) (s : List ℕ) (l : Lead) (behind : ℕ) (read : lead t s 0 ≡ done l behind) where
+  ending : behind ≡ l .start + allHeaders (headerTypeByte (l .header))
+  ending = lead-ends (parts t l behind s 0 read)
+
+  begins : l .start ≤ length s
+  begins = omega (arith, ends {p = lead t} s 0 (lead-law t) zero-le read .1, ending)
+
+  -- they are read with more bytes too
+  still : (more : List ℕ) → lead t (s ++ more) 0 ≡ done l behind
+  still more = subst (λ (x : Ans Lead). Kept x (length more) (lead t (s ++ more) 0)) read (lead-law t .kept s more 0 zero-le)
+
+  module _ (f : List ℕ) (filter : Filter) where
+    -- steps 5 and 6 come next
+    routed-next : routed f filter t s 0 ≡ check f filter l s behind
+    routed-next = routed-is f filter t s 0 ∙ then-done (lead t) (check f filter) s 0 read
+
+    -- the filter's verdict is that of the headers
+    same-verdict : (more : List ℕ) → filteredOut f filter (s ++ more) (l .extended) (l .header .«ecu_id») ≡ filteredOut f filter s (l .extended) (l .header .«ecu_id»)
+    same-verdict more = let p = parts t l behind s 0 read in filtered-same f s more filter (l .extended) (l .header .«ecu_id») (ids-in p begins) (ecu-in p begins)
+
+    -- all declared bytes are there: the headers go to steps 6 and 7
+    module _ (there : overallLength (l .header) ≤ length s - l .start) where
+      abbrev heads : Headers
+      heads = headersOf f filter (l .stored) (l .header) (l .extended) s
+
+      to-body : message f filter t s 0 ≡ body heads s behind
+      unfolding message check
+      to-body = then-done (routed f filter t) body s 0 (routed-next ∙ stands (l .start) (overallLength (l .header)) s behind (headersOf f filter (l .stored) (l .header) (l .extended)) there)
+
+      by-length : ByLength f filter s l → Decided (l .start + overallLength (l .header)) (message f filter t s 0)
+      unfolding headersOf overallLength
+      by-length c = rw to-body (subst (λ (n : ℕ). Decided n (body heads s behind)) end (by c))
+        where
+          room : behind + heads .header .«payload_length» ≤ length s
+          room = omega (arith, ending, begins, there)
+
+          end : behind + heads .header .«payload_length» ≡ l .start + overallLength (l .header)
+          end = omega (arith, ending)
+
+          by : ByLength f filter s l → Decided (behind + heads .header .«payload_length») (body heads s behind)
+          by (ByLength.quiet v) = quiet-decided heads s behind room v
+          by (ByLength.dropped d) = dropped-decided heads s behind room d
+
+-- ---- step 5 gave the need
+module _ (f : List ℕ) (filter : Filter) (t : Bool) (s : List ℕ) (n : ℕ) (l : Lead) (short : Short t s n l) where
+  pub given : message f filter t s 0 ≡ need n
+  unfolding message check
+  given =
+      then-need (routed f filter t) body s 0
+      (routed-next t s l (short .behind) (short .read) f filter
+      ∙ lacks (l .start) (overallLength (l .header)) s (short .behind) (seen (headersOf f filter (l .stored) (l .header) (l .extended))) n (omega (arith, short .missing)) (omega (arith, short .some)))
+
+  -- exactly that many more bytes, of any value, bring a decided answer, and every byte is used
+  pub worth : ByLength f filter s l → (more : List ℕ) → length more ≡ n → Decided (length (s ++ more)) (message f filter t (s ++ more) 0)
+  worth c more e = subst (λ (n : ℕ). Decided n (message f filter t (s ++ more) 0)) all (by-length t (s ++ more) l (short .behind) (still t s l (short .behind) (short .read) more) f filter there (longer c))
+    where
+      from : l .start ≤ length s
+      from = begins t s l (short .behind) (short .read)
+
+      all : l .start + overallLength (l .header) ≡ length (s ++ more)
+      all = omega (arith, length-append s more, short .missing, from)
+
+      there : overallLength (l .header) ≤ length (s ++ more) - l .start
+      there = omega (arith, all)
+
+      longer : ByLength f filter s l → ByLength f filter (s ++ more) l
+      longer (ByLength.quiet v) = ByLength.quiet v
+      longer (ByLength.dropped d) = ByLength.dropped (same-verdict t s l (short .behind) (short .read) f filter more ∙ d)
+
+  -- in the words of the request: the message isn't verbose
+  pub worth-its-need : isVerbose (l .extended) ≡ false → (more : List ℕ) → length more ≡ n → Decided (length (s ++ more)) (message f filter t (s ++ more) 0)
+  worth-its-need v = worth (ByLength.quiet v)
+
+  -- fewer bytes don't do, verbose or not: it is the least number that does
+  pub no-less : (more : List ℕ) → length more < n → numbered (message f filter t (s ++ more) 0) .number ≡ 2
+  no-less more few = message-honest f filter t s more n (ap numbered given) few
+
+-- ---- and whose the need is
+module _ (f : List ℕ) (filter : Filter) (t : Bool) (s : List ℕ) (n : ℕ) where
+  same-need : {m : ℕ} → _≡_ {A = Ans ParsedMessage} (need m) (need n) → m ≡ n
+  same-need e = cc
+
+  no-hickup-need : {r : ℕ} → _≡_ {A = Ans ParsedMessage} (hickup r) (need n) → ⊥
+  no-hickup-need e = omega (arith, ap (λ (x : Ans ParsedMessage). numbered x .number) e)
+
+  no-broken-need : _≡_ {A = Ans ParsedMessage} broken (need n) → ⊥
+  no-broken-need e = omega (arith, ap (λ (x : Ans ParsedMessage). numbered x .number) e)
+
+  module _ (l : Lead) (behind : ℕ) (read : lead t s 0 ≡ done l behind) (e : message f filter t s 0 ≡ need n) where
+    abbrev all : ℕ
+    all = overallLength (l .header)
+
+    -- headers that were read, and then a need: if declared bytes are missing, it is step 5's
+    lacking-short : length s - l .start < all → Short t s n l
+    lacking-short lack =
+        let m = all - (length s - l .start) in
+        let short : Short t s m l = record { behind = behind; read = read; missing = omega (arith, lack); some = omega (arith, lack) } in
+        let z : m ≡ n = same-need (sym (given f filter t s m l short) ∙ e) in
+        subst (λ (k : ℕ). Short t s k l) z short
+
+    -- else the message doesn't end by its length
+    not-by-length : all ≤ length s - l .start → ByLength f filter s l → ⊥
+    not-by-length there c = subst (Decided _) e (by-length t s l behind read f filter there c)
+
+    -- so that the need of a message that ends by its length is step 5's, once the headers are read
+    pub of-step-5 : ByLength f filter s l → Short t s n l
+    of-step-5 c = by (leb all (length s - l .start)) refl
+      where
+        by : (b : Bool) → leb all (length s - l .start) ≡ b → Short t s n l
+        by true q = absurd (not-by-length (leb-true _ _ q) c)
+        by false q = lacking-short (leb-false _ _ q)
+
+    behind-headers : Whose f filter t s n
+    behind-headers = by (leb all (length s - l .start)) (isVerbose (l .extended)) (filteredOut f filter s (l .extended) (l .header .«ecu_id»)) refl refl refl
+      where
+        by : (b v d : Bool) → leb all (length s - l .start) ≡ b → isVerbose (l .extended) ≡ v → filteredOut f filter s (l .extended) (l .header .«ecu_id») ≡ d → Whose f filter t s n
+        by false v d q r u = Whose.short l (lacking-short (leb-false _ _ q))
+        by true true false q r u = Whose.late l behind read (leb-true _ _ q) r u
+        by true true true q r u = absurd (not-by-length (leb-true _ _ q) (ByLength.dropped u))
+        by true false d q r u = absurd (not-by-length (leb-true _ _ q) (ByLength.quiet r))
+
+  pub whose : message f filter t s 0 ≡ need n → Whose f filter t s n
+  unfolding message
+  whose e = by (lead t s 0) refl
+    where
+      first : {x : Ans Headers} → (lead t >>= check f filter) s 0 ≡ x → routed f filter t s 0 ≡ x
+      first q = routed-is f filter t s 0 ∙ q
+
+      by : (x : Ans Lead) → lead t s 0 ≡ x → Whose f filter t s n
+      by (done l behind) q = behind-headers l behind q e
+      by (need m) q = Whose.early (q ∙ ap need (same-need (sym (then-need (routed f filter t) body s 0 (first (then-need (lead t) (check f filter) s 0 q))) ∙ e)))
+      by (hickup r) q = absurd (no-hickup-need (sym (then-hickup (routed f filter t) body s 0 (first (then-hickup (lead t) (check f filter) s 0 q))) ∙ e))
+      by broken q = absurd (no-broken-need (sym (then-broken (routed f filter t) body s 0 (first (then-broken (lead t) (check f filter) s 0 q))) ∙ e))
