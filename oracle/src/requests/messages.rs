@@ -4,12 +4,13 @@ use super::build::{
     argument, damage, declare, every_word, filter, filter_field, filter_or_none, headers, junk, message, message_with,
     number, random_word, storage_header, stored_message, FLOATS32, FLOATS64, GOOD_KINDS, IDS,
 };
-use super::identifiers::examples;
+use super::identifiers;
+use super::needs;
 use super::random::Rng;
 use super::strings::BOUNDARY;
 use super::{every_cut, every_string, hex, Emit, Section};
 
-pub const TINY: &[Section] = &[every_argument_kind, examples];
+pub const TINY: &[Section] = &[every_argument_kind, identifiers::examples, needs::examples, needs::every_info];
 pub const SECTIONS: &[Section] = &[
     every_flag_cut,
     every_message_info,

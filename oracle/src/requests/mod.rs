@@ -10,6 +10,7 @@ mod fields;
 mod identifiers;
 mod index;
 pub mod messages;
+mod needs;
 pub mod random;
 mod signals;
 mod strings;
