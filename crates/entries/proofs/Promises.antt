@@ -10,7 +10,7 @@ use Rattle.wire.specs.Answer.Ans.{done}
 use Rattle.filter.specs.Filter.{filterOf}
 use Rattle.filter.specs.declared.Filter.{Filter}
 use Rattle.filter.specs.declared.FilterAns.{FilterAns}
-use Rattle.worth.specs.Lead.{Lead, lead}
+use Rattle.worth.specs.Opening.{Opening, opening}
 use Rattle.worth.specs.Need.{ByLength}
 use Rattle.walk.specs.Walk.{Ends}
 use Rattle.index.specs.Index.{limit, numberOf, endOf, refused, walkOf, call}
@@ -92,9 +92,9 @@ module _ (f : List ℕ) where
   still-waits = any.still-waits entryForm entry-sound f
 
   -- and what it is worth
-  pub worth-the-wait : (n : ℕ) (s t : List ℕ) (st : State) (T : List Entry) (v : ℕ) (l : Lead) (behind : ℕ) → st .at + length (s ++ t) ≤ limit
+  pub worth-the-wait : (n : ℕ) (s t : List ℕ) (st : State) (T : List Entry) (v : ℕ) (l : Opening) (behind : ℕ) → st .at + length (s ++ t) ≤ limit
       → call entryForm f n s st T .answer .end ≡ End.Waits v
-      → lead true (drop (call entryForm f n s st T .answer .state .at - st .at) s) 0 ≡ done l behind
+      → opening true (drop (call entryForm f n s st T .answer .state .at - st .at) s) 0 ≡ done l behind
       → ((filter : Filter) → filterOf f ≡ FilterAns.Good filter → ByLength f filter (drop (call entryForm f n s st T .answer .state .at - st .at) s) l)
       → length t ≡ v → WaitOver (length T) (call entryForm f n s st T) (call entryForm f n (s ++ t) st T)
   worth-the-wait = any.worth-the-wait entryForm entry-sound f

@@ -40,7 +40,7 @@ use Rattle.filter.specs.declared.Filter.{Filter}
 use Rattle.filter.specs.declared.FilterAns.{FilterAns}
 use Rattle.step.specs.Step.{asked}
 use Rattle.step.proofs.Fair.{fair, patient, worth-an-entry}
-use Rattle.worth.specs.Lead.{Lead, lead}
+use Rattle.worth.specs.Opening.{Opening, opening}
 use Rattle.worth.specs.Need.{ByLength}
 use Rattle.index.specs.Index.{limit, Form, Sound, numberOf, Outcome, refused, shown, laid, endOf, walkOf, ahead, checked, call}
 use Rattle.index.specs.Calls.{unlimited, whole, adding, next, over-trace, calls, joined, unless-paused, repeated, Above, total, WaitOver}
@@ -421,9 +421,9 @@ module _ {A : Type 0} (form : Form A) (sound : Sound form) (f : List ℕ) where
         ap (λ (o : Out ℕ ℕ). length (o .entries)) e, length-append (before .entries) (turn (Take k len i) (suc r′) (before .at) go .entries)))
 
   -- where the call waits with need v and the headers that stand there are read, of a message that ends by its length: exactly v bytes more, of any value
-  pub worth-the-wait : (n : ℕ) (s t : List ℕ) (st : State) (T : List A) (v : ℕ) (l : Lead) (behind : ℕ) → st .at + length (s ++ t) ≤ limit
+  pub worth-the-wait : (n : ℕ) (s t : List ℕ) (st : State) (T : List A) (v : ℕ) (l : Opening) (behind : ℕ) → st .at + length (s ++ t) ≤ limit
       → call form f n s st T .answer .end ≡ End.Waits v
-      → lead true (drop (call form f n s st T .answer .state .at - st .at) s) 0 ≡ done l behind
+      → opening true (drop (call form f n s st T .answer .state .at - st .at) s) 0 ≡ done l behind
       → ((filter : Filter) → filterOf f ≡ FilterAns.Good filter → ByLength f filter (drop (call form f n s st T .answer .state .at - st .at) s) l)
       → length t ≡ v → WaitOver (form .holds (length T)) (call form f n s st T) (call form f n (s ++ t) st T)
   worth-the-wait n s t st T v l behind g w read c enough = by (came n s st T) (filterOf f) refl

@@ -21,7 +21,7 @@ use Rattle.parse.specs.Message.{routed, body, message}
 use Rattle.parse.specs.declared.Headers.{Headers}
 use Rattle.parse.specs.declared.ParsedMessage.{ParsedMessage}
 use Rattle.facts.proofs.Laws.{routed-law, message-stable, message-honest}
-use Rattle.worth.specs.Lead.{Lead, lead}
+use Rattle.worth.specs.Opening.{Opening, opening}
 use Rattle.worth.specs.Need.{ByLength, Decided}
 use Rattle.worth.proofs.Worth.{worth, of-step-5}
 use Rattle.walk.specs.Walk.{Step, Wait, Take, Fair}
@@ -137,7 +137,7 @@ taken a b all (need n) d = absurd d
 taken a b all (hickup r) d = absurd d
 taken a b all broken d = (a, 4, unrecoverableKind, refl)
 
-pub worth-an-entry : (f : List ℕ) (filter : Filter) (s : List ℕ) (n : ℕ) (l : Lead) (behind : ℕ) → asked f filter s ≡ Wait n → lead true s 0 ≡ done l behind → ByLength f filter s l
+pub worth-an-entry : (f : List ℕ) (filter : Filter) (s : List ℕ) (n : ℕ) (l : Opening) (behind : ℕ) → asked f filter s ≡ Wait n → opening true s 0 ≡ done l behind → ByLength f filter s l
     → (more : List ℕ) → length more ≡ n → (k : ℕ) × (len : ℕ) × (i : ℕ) × (asked f filter (s ++ more) ≡ Take k len i)
 unfolding asked
 worth-an-entry f filter s n l behind e read c more enough =

@@ -26,19 +26,19 @@ use Rattle.filtering.specs.declared.OptExtended.{OptExtended}
 use Rattle.filtering.proofs.Stable.{IdsIn}
 use Rattle.parse.specs.Message.{maybeExtended}
 use Rattle.facts.proofs.Laws.{maybe-ids}
-use Rattle.worth.specs.Lead.{Lead, leadBehind, lead}
+use Rattle.worth.specs.Opening.{Opening, openingBehind, opening}
 
 -- steps 3 and 4, read: where the two headers begin and end
-pub record Parts (l : Lead) (n : ℕ) (s : List ℕ) : Type 0 where
+pub record Parts (l : Opening) (n : ℕ) (s : List ℕ) : Type 0 where
   pub mid : ℕ
   pub first : standard s (l .start) ≡ done (l .header) mid
   pub second : maybeExtended (l .header .«has_extended_header») s mid ≡ done (l .extended) n
 
-same-parts : {l l′ : Lead} {n n′ : ℕ} {s : List ℕ} → l ≡ l′ → n ≡ n′ → Parts l′ n′ s → Parts l n s
+same-parts : {l l′ : Opening} {n n′ : ℕ} {s : List ℕ} → l ≡ l′ → n ≡ n′ → Parts l′ n′ s → Parts l n s
 same-parts a b p = rw (a, b) p
 
-behind-parts : (o : OptStored) (l : Lead) (n : ℕ) (s : List ℕ) (at : ℕ) → leadBehind o s at ≡ done l n → Parts l n s
-unfolding leadBehind here
+behind-parts : (o : OptStored) (l : Opening) (n : ℕ) (s : List ℕ) (at : ℕ) → openingBehind o s at ≡ done l n → Parts l n s
+unfolding openingBehind here
 behind-parts o l n s at e =
     let r0 = split here _ s at e in
     let r1 = split standard _ s (r0 .mid) (r0 .second) in
@@ -47,9 +47,9 @@ behind-parts o l n s at e =
     let z : (r0 .value ≡ at) × (r0 .mid ≡ at) = same-value (r0 .first) in
     same-parts (q .0) (q .1) (record { mid = r1 .mid; first = subst (λ (k : ℕ). standard s k ≡ done (r1 .value) (r1 .mid)) (z .1 ∙ sym (z .0)) (r1 .first); second = r2 .first })
 
-pub parts : (t : Bool) (l : Lead) (n : ℕ) (s : List ℕ) (at : ℕ) → lead t s at ≡ done l n → Parts l n s
-unfolding lead choose
-parts true l n s at e = let r = split storage leadBehind s at e in behind-parts (r .value) l n s (r .mid) (r .second)
+pub parts : (t : Bool) (l : Opening) (n : ℕ) (s : List ℕ) (at : ℕ) → opening t s at ≡ done l n → Parts l n s
+unfolding opening choose
+parts true l n s at e = let r = split storage openingBehind s at e in behind-parts (r .value) l n s (r .mid) (r .second)
 parts false l n s at e = behind-parts OptStored.Absent l n s at e
 
 ext-ends : (t : Bool) (o : OptExtended) (n : ℕ) (s : List ℕ) (at : ℕ) → maybeExtended t s at ≡ done o n → n ≡ at + oneIf t * 10
@@ -60,14 +60,14 @@ ext-ends true o n s at e =
     omega (arith, q .1, extended-ends (r .value) (r .mid) s at (r .first))
 ext-ends false o n s at e = let q = of-ret s at OptExtended.Absent e in omega (arith, q .1)
 
-module _ {l : Lead} {n : ℕ} {s : List ℕ} (p : Parts l n s) where
+module _ {l : Opening} {n : ℕ} {s : List ℕ} (p : Parts l n s) where
   -- the headers end so many bytes behind the storage header as their type byte says
-  pub lead-ends : n ≡ l .start + allHeaders (headerTypeByte (l .header))
-  lead-ends = omega (arith, standard-ends (l .header) (p .mid) s (l .start) (p .first), ext-ends (l .header .«has_extended_header») (l .extended) n s (p .mid) (p .second))
+  pub opening-ends : n ≡ l .start + allHeaders (headerTypeByte (l .header))
+  opening-ends = omega (arith, standard-ends (l .header) (p .mid) s (l .start) (p .first), ext-ends (l .header .«has_extended_header») (l .extended) n s (p .mid) (p .second))
 
   -- the length is the declared one
-  pub lead-says : overallLength (l .header) ≡ numberOf true 2 s (l .start + 2)
-  lead-says = standard-says (l .header) (p .mid) s (l .start) (p .first)
+  pub opening-says : overallLength (l .header) ≡ numberOf true 2 s (l .start + 2)
+  opening-says = standard-says (l .header) (p .mid) s (l .start) (p .first)
 
   -- the ids that a filter looks at lie within the bytes
   pub ecu-in : l .start ≤ length s → (r : Range) → l .header .«ecu_id» ≡ OptRange.Present r → r .start + r .len ≤ length s

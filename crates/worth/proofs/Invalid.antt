@@ -16,7 +16,7 @@ use Rattle.headertype.specs.declared.Endianness.{Endianness}
 use Rattle.headertype.specs.declared.StandardHeader.{StandardHeader}
 use Rattle.headers.specs.Standard.{standard}
 use Rattle.headers.proofs.Ends.{standard-says}
-use Rattle.worth.specs.Lead.{Lead, lead}
+use Rattle.worth.specs.Opening.{Opening, opening}
 use Rattle.worth.specs.Invalid.{isInvalid}
 use Rattle.worth.proofs.Ends.{parts}
 
@@ -34,7 +34,7 @@ never-invalid h n s at byte e =
     rw same (le-ltb (overallLength h) (allHeaders (headerTypeByte h)) (omega arith))
 
 -- so at no message whose headers are read
-pub no-invalid-message : (t : Bool) (l : Lead) (behind : ℕ) (s : List ℕ) → ((i : ℕ) → getD s i 0 < 256) → lead t s 0 ≡ done l behind → isInvalid (l .header) ≡ false
+pub no-invalid-message : (t : Bool) (l : Opening) (behind : ℕ) (s : List ℕ) → ((i : ℕ) → getD s i 0 < 256) → opening t s 0 ≡ done l behind → isInvalid (l .header) ≡ false
 no-invalid-message t l behind s byte e = let p = parts t l behind s 0 e in never-invalid (l .header) (p .mid) s (l .start) byte (p .first)
 
 -- the test by itself can be met: by a header that no bytes have, whose 16-bit sum wraps

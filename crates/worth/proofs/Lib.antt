@@ -1,4 +1,4 @@
-pub mod Lead
+pub mod Opening
 pub mod Ends
 pub mod Decided
 pub mod Worth

@@ -18,7 +18,7 @@ use Rattle.filter.specs.declared.FilterAns.{FilterAns}
 use Rattle.payload.specs.Payload.{isVerbose}
 use Rattle.parse.specs.Message.{Answer, message, judged, messageOf, numberedMessage}
 use Rattle.parse.specs.declared.ParsedMessage.{ParsedMessage}
-use Rattle.worth.specs.Lead.{Lead, lead}
+use Rattle.worth.specs.Opening.{Opening, opening}
 use Rattle.worth.specs.Need.{Short, ByLength, Whose, DecidedCall}
 use Rattle.worth.proofs.Worth.{given, worth, of-step-5, whose}
 
@@ -47,7 +47,7 @@ module _ (f : List ℕ) (t : Bool) (s : List ℕ) where
   asked n (FilterAns.Good filter) q e = record { filter = filter; good = q; waiting = of-need (message f filter t s 0) n e }
   asked n FilterAns.Bad q e = absurd (omega (arith, ap (λ (x : Numbered ParsedMessage). x .number) e))
 
-  pub whole-given : (filter : Filter) (n : ℕ) (l : Lead) → filterOf f ≡ FilterAns.Good filter → Short t s n l → numberedMessage (messageOf f t s) ≡ waits n
+  pub whole-given : (filter : Filter) (n : ℕ) (l : Opening) → filterOf f ≡ FilterAns.Good filter → Short t s n l → numberedMessage (messageOf f t s) ≡ waits n
   unfolding messageOf judged
   whole-given filter n l q short = rw (q, given f filter t s n l short)
 
@@ -55,7 +55,7 @@ module _ (f : List ℕ) (t : Bool) (s : List ℕ) where
   unfolding messageOf
   whole-whose n e = let a = asked n (filterOf f) refl e in (a .filter, a .good, whose f (a .filter) t s n (a .waiting))
 
-  module _ (n : ℕ) (incomplete : numberedMessage (messageOf f t s) ≡ waits n) (l : Lead) (behind : ℕ) (read : lead t s 0 ≡ done l behind)
+  module _ (n : ℕ) (incomplete : numberedMessage (messageOf f t s) ≡ waits n) (l : Opening) (behind : ℕ) (read : opening t s 0 ≡ done l behind)
       (more : List ℕ) (enough : length more ≡ n) where
     judged-worth : (filter : Filter) → filterOf f ≡ FilterAns.Good filter → message f filter t s 0 ≡ need n → ByLength f filter s l → DecidedCall (length (s ++ more)) (messageOf f t (s ++ more))
     unfolding messageOf judged

@@ -27,10 +27,10 @@ use Rattle.parse.specs.Message.{havingFrom, seen, headersOf, routed, body, mess
 use Rattle.parse.specs.declared.Headers.{Headers}
 use Rattle.parse.specs.declared.ParsedMessage.{ParsedMessage}
 use Rattle.facts.proofs.Laws.{message-honest}
-use Rattle.worth.specs.Lead.{Lead, lead}
+use Rattle.worth.specs.Opening.{Opening, opening}
 use Rattle.worth.specs.Need.{Short, ByLength, Whose, Decided}
-use Rattle.worth.proofs.Lead.{check, routed-is, lead-law}
-use Rattle.worth.proofs.Ends.{parts, lead-ends, ecu-in, ids-in}
+use Rattle.worth.proofs.Opening.{check, routed-is, opening-law}
+use Rattle.worth.proofs.Ends.{parts, opening-ends, ecu-in, ids-in}
 use Rattle.worth.proofs.Decided.{dropped-decided, quiet-decided}
 
 -- ---- step 5 by itself: the declared bytes are there, or they aren't
@@ -46,21 +46,21 @@ module _ {A : Type 0} (start n : ℕ) (s : List ℕ) (at : ℕ) where
   stands f h = rw (le-leb n (length s - start) h)
 
 -- ---- where the headers are read
-module _ (t : Bool) (s : List ℕ) (l : Lead) (behind : ℕ) (read : lead t s 0 ≡ done l behind) where
+module _ (t : Bool) (s : List ℕ) (l : Opening) (behind : ℕ) (read : opening t s 0 ≡ done l behind) where
   ending : behind ≡ l .start + allHeaders (headerTypeByte (l .header))
-  ending = lead-ends (parts t l behind s 0 read)
+  ending = opening-ends (parts t l behind s 0 read)
 
   begins : l .start ≤ length s
-  begins = omega (arith, ends {p = lead t} s 0 (lead-law t) zero-le read .1, ending)
+  begins = omega (arith, ends {p = opening t} s 0 (opening-law t) zero-le read .1, ending)
 
   -- they are read with more bytes too
-  still : (more : List ℕ) → lead t (s ++ more) 0 ≡ done l behind
-  still more = subst (λ (x : Ans Lead). Kept x (length more) (lead t (s ++ more) 0)) read (lead-law t .kept s more 0 zero-le)
+  still : (more : List ℕ) → opening t (s ++ more) 0 ≡ done l behind
+  still more = subst (λ (x : Ans Opening). Kept x (length more) (opening t (s ++ more) 0)) read (opening-law t .kept s more 0 zero-le)
 
   module _ (f : List ℕ) (filter : Filter) where
     -- steps 5 and 6 come next
     routed-next : routed f filter t s 0 ≡ check f filter l s behind
-    routed-next = routed-is f filter t s 0 ∙ then-done (lead t) (check f filter) s 0 read
+    routed-next = routed-is f filter t s 0 ∙ then-done (opening t) (check f filter) s 0 read
 
     -- the filter's verdict is that of the headers
     same-verdict : (more : List ℕ) → filteredOut f filter (s ++ more) (l .extended) (l .header .«ecu_id») ≡ filteredOut f filter s (l .extended) (l .header .«ecu_id»)
@@ -90,7 +90,7 @@ module _ (t : Bool) (s : List ℕ) (l : Lead) (behind : ℕ) (read : lead t s 0 
           by (ByLength.dropped d) = dropped-decided heads s behind room d
 
 -- ---- step 5 gave the need
-module _ (f : List ℕ) (filter : Filter) (t : Bool) (s : List ℕ) (n : ℕ) (l : Lead) (short : Short t s n l) where
+module _ (f : List ℕ) (filter : Filter) (t : Bool) (s : List ℕ) (n : ℕ) (l : Opening) (short : Short t s n l) where
   pub given : message f filter t s 0 ≡ need n
   unfolding message check
   given =
@@ -134,7 +134,7 @@ module _ (f : List ℕ) (filter : Filter) (t : Bool) (s : List ℕ) (n : ℕ) wh
   no-broken-need : _≡_ {A = Ans ParsedMessage} broken (need n) → ⊥
   no-broken-need e = omega (arith, ap (λ (x : Ans ParsedMessage). numbered x .number) e)
 
-  module _ (l : Lead) (behind : ℕ) (read : lead t s 0 ≡ done l behind) (e : message f filter t s 0 ≡ need n) where
+  module _ (l : Opening) (behind : ℕ) (read : opening t s 0 ≡ done l behind) (e : message f filter t s 0 ≡ need n) where
     abbrev all : ℕ
     all = overallLength (l .header)
 
@@ -169,13 +169,13 @@ module _ (f : List ℕ) (filter : Filter) (t : Bool) (s : List ℕ) (n : ℕ) wh
 
   pub whose : message f filter t s 0 ≡ need n → Whose f filter t s n
   unfolding message
-  whose e = by (lead t s 0) refl
+  whose e = by (opening t s 0) refl
     where
-      first : {x : Ans Headers} → (lead t >>= check f filter) s 0 ≡ x → routed f filter t s 0 ≡ x
+      first : {x : Ans Headers} → (opening t >>= check f filter) s 0 ≡ x → routed f filter t s 0 ≡ x
       first q = routed-is f filter t s 0 ∙ q
 
-      by : (x : Ans Lead) → lead t s 0 ≡ x → Whose f filter t s n
+      by : (x : Ans Opening) → opening t s 0 ≡ x → Whose f filter t s n
       by (done l behind) q = behind-headers l behind q e
-      by (need m) q = Whose.early (q ∙ ap need (same-need (sym (then-need (routed f filter t) body s 0 (first (then-need (lead t) (check f filter) s 0 q))) ∙ e)))
-      by (hickup r) q = absurd (no-hickup-need (sym (then-hickup (routed f filter t) body s 0 (first (then-hickup (lead t) (check f filter) s 0 q))) ∙ e))
-      by broken q = absurd (no-broken-need (sym (then-broken (routed f filter t) body s 0 (first (then-broken (lead t) (check f filter) s 0 q))) ∙ e))
+      by (need m) q = Whose.early (q ∙ ap need (same-need (sym (then-need (routed f filter t) body s 0 (first (then-need (opening t) (check f filter) s 0 q))) ∙ e)))
+      by (hickup r) q = absurd (no-hickup-need (sym (then-hickup (routed f filter t) body s 0 (first (then-hickup (opening t) (check f filter) s 0 q))) ∙ e))
+      by broken q = absurd (no-broken-need (sym (then-broken (routed f filter t) body s 0 (first (then-broken (opening t) (check f filter) s 0 q))) ∙ e))

@@ -1,3 +1,3 @@
-pub mod Lead
+pub mod Opening
 pub mod Need
 pub mod Invalid

@@ -11,20 +11,20 @@ use Rattle.filtering.specs.declared.OptExtended.{OptExtended}
 use Rattle.parse.specs.Message.{maybeExtended}
 
 -- the storage header, the place behind it, where the standard header begins and from which on the declared length counts, and the two headers
-pub record Lead : Type 0 where
+pub record Opening : Type 0 where
   pub stored : OptStored
   pub start : ℕ
   pub header : StandardHeader
   pub extended : OptExtended
 
 -- steps 3 and 4, behind the storage header
-unfoldable pub leadBehind : OptStored → Parser Lead
-leadBehind stored = do
+unfoldable pub openingBehind : OptStored → Parser Opening
+openingBehind stored = do
   start ← here
   header ← standard
   extended ← maybeExtended (header .«has_extended_header»)
   ret (record { stored = stored; start = start; header = header; extended = extended })
 
 -- steps 2 to 4, in storage mode or not
-unfoldable pub lead : Bool → Parser Lead
-lead stored = choose stored (storage >>= leadBehind) (leadBehind OptStored.Absent)
+unfoldable pub opening : Bool → Parser Opening
+opening stored = choose stored (storage >>= openingBehind) (openingBehind OptStored.Absent)

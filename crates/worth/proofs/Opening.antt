@@ -23,7 +23,7 @@ use Rattle.parse.specs.Message.{havingFrom, seen, maybeExtended, headersOf, fin
 use Rattle.parse.specs.declared.Headers.{Headers}
 use Rattle.parse.proofs.Nothing.{standard-of-nothing}
 use Rattle.facts.proofs.Laws.{maybeExtended-law}
-use Rattle.worth.specs.Lead.{Lead, leadBehind, lead}
+use Rattle.worth.specs.Opening.{Opening, openingBehind, opening}
 
 -- ---- one rule after another
 module _ {A B C : Type 0} (p : Parser A) (k : A → Parser B) (m : B → Parser C) (s : List ℕ) (at : ℕ) where
@@ -50,7 +50,7 @@ module _ {A B : Type 0} (p : Parser A) (k m : A → Parser B) (s : List ℕ) (at
 
 -- ---- steps 5 and 6, behind those
 module _ (f : List ℕ) (filter : Filter) where
-  unfoldable pub check : Lead → Parser Headers
+  unfoldable pub check : Opening → Parser Headers
   check l = havingFrom (l .start) (overallLength (l .header)) (seen (headersOf f filter (l .stored) (l .header) (l .extended)))
 
   finished-is : (o : OptStored) (start : ℕ) (h : StandardHeader) (s : List ℕ) (at : ℕ)
@@ -60,8 +60,8 @@ module _ (f : List ℕ) (filter : Filter) where
       sym (assoc (maybeExtended (h .«has_extended_header»)) _ check s at
       ∙ then-same (maybeExtended (h .«has_extended_header»)) _ _ s at (λ e b. then-done (ret _) check s b (ret-is _ s b)))
 
-  headers-is : (o : OptStored) (s : List ℕ) (at : ℕ) → headers f filter o s at ≡ (leadBehind o >>= check) s at
-  unfolding headers leadBehind
+  headers-is : (o : OptStored) (s : List ℕ) (at : ℕ) → headers f filter o s at ≡ (openingBehind o >>= check) s at
+  unfolding headers openingBehind
   headers-is o s at =
       then-done here _ s at (here-is s at)
       ∙ then-same standard _ _ s at (λ h b. finished-is o at h s b)
@@ -69,21 +69,21 @@ module _ (f : List ℕ) (filter : Filter) where
       ∙ sym (then-done here _ s at (here-is s at))
       ∙ sym (assoc here _ check s at)
 
-  pub routed-is : (t : Bool) (s : List ℕ) (at : ℕ) → routed f filter t s at ≡ (lead t >>= check) s at
-  unfolding routed lead choose
-  routed-is true s at = then-same storage _ _ s at (λ o b. headers-is o s b) ∙ sym (assoc storage leadBehind check s at)
+  pub routed-is : (t : Bool) (s : List ℕ) (at : ℕ) → routed f filter t s at ≡ (opening t >>= check) s at
+  unfolding routed opening choose
+  routed-is true s at = then-same storage _ _ s at (λ o b. headers-is o s b) ∙ sym (assoc storage openingBehind check s at)
   routed-is false s at = headers-is OptStored.Absent s at
 
 -- ---- the law of steps 2 to 4
-behind-law : (o : OptStored) → Lawful (leadBehind o)
-unfolding leadBehind
+behind-law : (o : OptStored) → Lawful (openingBehind o)
+unfolding openingBehind
 behind-law o = search (laws, standard-law, maybeExtended-law) depth 20
 
-behind-nothing : (s : List ℕ) → leadBehind OptStored.Absent s (length s) ≡ need 1
-unfolding leadBehind
+behind-nothing : (s : List ℕ) → openingBehind OptStored.Absent s (length s) ≡ need 1
+unfolding openingBehind
 behind-nothing s = then-done here _ s (length s) (here-is s (length s)) ∙ then-need standard _ s (length s) (standard-of-nothing s)
 
-pub lead-law : (t : Bool) → Lawful (lead t)
-unfolding lead
-lead-law t = choose-law t _ _ (storage-law leadBehind behind-law behind-nothing) (behind-law OptStored.Absent)
+pub opening-law : (t : Bool) → Lawful (opening t)
+unfolding opening
+opening-law t = choose-law t _ _ (storage-law openingBehind behind-law behind-nothing) (behind-law OptStored.Absent)
 
