@@ -59,4 +59,3 @@ pub all-headers : (h : StandardHeader) → allHeaders (headerTypeByte h)
     ≡ 4 + rangeBit (h .«ecu_id») * 4 + numBit (h .«session_id») * 4 + numBit (h .timestamp) * 4 + oneIf (h .«has_extended_header») * 10
 unfolding headerTypeByte
 all-headers h = of-bits _ _ _ _ _ _ (one-most (h .«has_extended_header»)) (big-most (h .endianness)) (range-most (h .«ecu_id»)) (num-most (h .«session_id»)) (num-most (h .timestamp))
-

@@ -28,7 +28,7 @@ use borrow.Author.Tests.{le-ltb, ltb-true, ltb-false}
 use Rattle.wire.specs.Answer.Ans.{done}
 use Rattle.table.specs.Over.{over}
 use Rattle.table.proofs.Laws.{over-none, over-length, over-before, over-behind}
-use Rattle.walk.specs.Walk.{Entry, Step, Take, Ends, Waits, Out, stop, after, turn, run, walk}
+use Rattle.walk.specs.Walk.{Entry, Take, Ends, Waits, Out, stop, after, turn, run, walk}
 use Rattle.walk.specs.Walk as walking
 use Rattle.walk.specs.Table.{flat, finish}
 use Rattle.walk.proofs.Laws.{walked, adds-up, counts, bounds, enough, waits-at}
@@ -417,8 +417,13 @@ module _ {A : Type 0} (form : Form A) (sound : Sound form) (f : List ℕ) where
         so : Outcome A → Outcome A
         so x = record { answer = record { state = x .answer .state; taken = x .answer .taken; end = End.Full }; table = x .table }
     past k len i (suc r′) go r e =
-        WaitOver.one-more (omega (arith, ap (λ (o : Outcome A). o .answer .state .used) (is s short), ap (λ (o : Outcome A). o .answer .state .used) (is (s ++ t) l),
-        ap (λ (o : Out ℕ ℕ). length (o .entries)) e, length-append (before .entries) (turn (Take k len i) (suc r′) (before .at) go .entries)))
+        WaitOver.one-more (omega (
+          arith,
+          ap (λ (o : Outcome A). o .answer .state .used) (is s short),
+          ap (λ (o : Outcome A). o .answer .state .used) (is (s ++ t) l),
+          ap (λ (o : Out ℕ ℕ). length (o .entries)) e,
+          length-append (before .entries) (turn (Take k len i) (suc r′) (before .at) go .entries),
+        ))
 
   -- where the call waits with need v and the headers that stand there are read, of a message that ends by its length: exactly v bytes more, of any value
   pub worth-the-wait : (n : ℕ) (s t : List ℕ) (st : State) (T : List A) (v : ℕ) (l : Opening) (behind : ℕ) → st .at + length (s ++ t) ≤ limit
@@ -434,7 +439,7 @@ module _ {A : Type 0} (form : Form A) (sound : Sound form) (f : List ℕ) where
       by (yes _ h m _ _) FilterAns.Bad z = absurd (omega (arith, ap numberOf (sym (ap (λ (o : Outcome A). o .answer .end) (bad-filter form f n s st T (filterOf f) refl z)) ∙ w)))
       by (yes _ h m _ _) (FilterAns.Good filter) z =
           let is : (x : List ℕ) → st .at + length x ≤ limit → call form f n x st T ≡ laid form T (st .used) (out form sound f filter n x st T) =
-            λ x y. good-filter form f n x st T (filterOf f) filter refl z ∙ goes-ahead form f n x st T filter h (le-ltb _ _ y) ∙ ahead-so form sound f filter n x st T in
+          λ x y. good-filter form f n x st T (filterOf f) filter refl z ∙ goes-ahead form f n x st T filter h (le-ltb _ _ y) ∙ ahead-so form sound f filter n x st T in
           let o = out form sound f filter n s st T in
           let at : call form f n s st T .answer .state .at ≡ o .at = ap (λ (x : Outcome A). x .answer .state .at) (is s m) in
           let ends : o .ends ≡ Ends.Waits v = waiting (o .ends) v (sym (ap (λ (x : Outcome A). x .answer .end) (is s m)) ∙ w) in

@@ -9,7 +9,7 @@
 --     no-info-refused    and an extended header, where 3 would come from, gives none, whatever its message info
 --     never-3            so 3 comes out of no call
 -- The other calls have no answer that is a Hickup. Assumes nothing.
-use Prim.Native.Nat.{ℕ, zero, suc}
+use Prim.Native.Nat.{ℕ}
 use native.Mathlib.Omega.{arith}
 use mathlib.Core.Path.{_≡_, refl, sym, ap, _∙_, subst}
 use mathlib.Core.Bool.{Bool, true, false}
@@ -19,7 +19,7 @@ use Rattle.wire.specs.Answer.{Ans, Parser, Carried, Numbered, numbered}
 use Rattle.wire.specs.Answer.Ans.{done, need, hickup, broken}
 use Rattle.filter.specs.Filter.{filterOf}
 use Rattle.filter.specs.declared.FilterAns.{FilterAns}
-use Rattle.parse.specs.Message.{message, judged, messageOf, numberedMessage}
+use Rattle.parse.specs.Message.{judged, messageOf, numberedMessage}
 use Rattle.parse.specs.declared.ParsedMessage.{ParsedMessage}
 use Rattle.wire.specs.Parser.{_>>=_, ret, here, refuse, choose, asking, having, fixed}
 use Rattle.wire.specs.Number.{number, numberOf}
@@ -41,7 +41,7 @@ use Rattle.signals.specs.Signal.{utf8, fixedWidth, content, inData, signal}
 use Rattle.signals.specs.Signals.{signals, constructed, signalTurn}
 use Rattle.signals.specs.declared.SignalCursor.{SignalCursor}
 use Rattle.facts.proofs.Vectors.{Sum, ofCarried, sum, hickups, sums, others}
-use Rattle.reasons.specs.Reasons.{isOneOf, Comes, EachComes, Exactly, messageCall, cursorCall, rawCall, skipCall, consumeCall, constructCall, signalCall, messageReasons, argumentReasons, skipReasons, consumeReasons, signalReasons}
+use Rattle.reasons.specs.Reasons.{isOneOf, Comes, Exactly, messageCall, cursorCall, rawCall, skipCall, consumeCall, constructCall, signalCall, messageReasons, argumentReasons, skipReasons, consumeReasons, signalReasons}
 use Rattle.reasons.proofs.Gives.{Of, Gives}
 use Rattle.reasons.proofs.Rules.{extended-gives, message-gives, turn-gives, raw-gives, skip-gives, consume-gives, construct-gives, signal-turn-gives}
 
@@ -118,29 +118,37 @@ consume-reasons = record {
   each = (((0x44 ∷ 0x4C ∷ 0x54 ∷ 0x01 ∷ replicate 12 0 ++ 0x20 ∷ 0x00 ∷ 0x00 ∷ 0x03 ∷ [], 0), refl), (((0x00 ∷ [], 0), refl), tt));
 }
 
--- ---- signal data: a word that is no type; a byte that isn't there; a string that is no UTF-8; a fixed-point word
+-- ---- signal data: a word with two types at once; a bool that isn't there; a string that is no UTF-8; a fixed-point word
+abbrev two-types : List ℕ
+two-types = 0x30 ∷ []
+
+abbrev bool : List ℕ
+bool = 0x11 ∷ []
+
+abbrev string : List ℕ
+string = 0x200 ∷ []
+
+abbrev no-utf8 : List ℕ
+no-utf8 = 0x02 ∷ 0x00 ∷ 0xC3 ∷ 0x28 ∷ []
+
+abbrev fixed-point : List ℕ
+fixed-point = 0x1043 ∷ []
+
 pub construct-reasons : Exactly constructCall signalReasons
 unfolding constructed signals signal _>>=_ decoded typeInfoOf kindBy codingOf unsignedOf typeLengthOf floatWidthOf inData content signalling.whole here number fixed having asking numberOf utf8 validUpTo upTo sequence among formed fixedWidth refuse ret
 construct-reasons = record {
   only = λ i r e. of-rule (construct-gives signalReasons refl refl refl refl (i .0) (i .1)) (i .2) 0 r e;
-  each = (
-    ((false, 0x30 ∷ [], []), refl), (
-    ((false, 0x11 ∷ [], []), refl), (
-    ((false, 0x200 ∷ [], 0x02 ∷ 0x00 ∷ 0xC3 ∷ 0x28 ∷ []), refl), (
-    ((false, 0x1043 ∷ [], replicate 4 0), refl), tt
-  ))));
+  each = (((false, two-types, []), refl), (((false, bool, []), refl), (((false, string, no-utf8), refl), (((false, fixed-point, no-utf8), refl), tt))));
 }
+
+abbrev first : SignalCursor
+first = record { at = 0; word = 0; big = false }
 
 pub signal-reasons : Exactly signalCall signalReasons
 unfolding signalTurn choose signal _>>=_ decoded typeInfoOf kindBy codingOf unsignedOf typeLengthOf floatWidthOf inData content signalling.whole here number fixed having asking numberOf utf8 validUpTo upTo sequence among formed fixedWidth refuse ret
 signal-reasons = record {
   only = λ i r e. of-rule (signal-turn-gives signalReasons refl refl refl refl (i .1) (i .0)) (i .2) (i .0 .at) r e;
-  each = (
-    ((record { at = 0; word = 0; big = false }, 0x30 ∷ [], []), refl), (
-    ((record { at = 0; word = 0; big = false }, 0x11 ∷ [], []), refl), (
-    ((record { at = 0; word = 0; big = false }, 0x200 ∷ [], 0x02 ∷ 0x00 ∷ 0xC3 ∷ 0x28 ∷ []), refl), (
-    ((record { at = 0; word = 0; big = false }, 0x1043 ∷ [], replicate 4 0), refl), tt
-  ))));
+  each = (((first, two-types, []), refl), (((first, bool, []), refl), (((first, string, no-utf8), refl), (((first, fixed-point, no-utf8), refl), tt))));
 }
 
 -- ---- REASON 3 NEVER COMES OUT

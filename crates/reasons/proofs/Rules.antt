@@ -1,14 +1,14 @@
 -- The reasons of each rule, in the document's order. A rule that gives none keeps any list; one that gives 1 keeps a list that has 1; and so on.
 -- Assumes nothing.
 use Prim.Native.Nat.{ℕ, zero, suc, _+_, _-_}
-use mathlib.Core.Path.{_≡_, refl, sym, _∙_}
+use mathlib.Core.Path.{_≡_}
 use mathlib.Core.Bool.{Bool, true, false}
 use mathlib.Core.List.{List, [], _∷_}
 use lib.ListN.{length, getD}
 use lib.Dec.{leb, eqb}
 use Rattle.wire.specs.Answer.{Ans, Parser}
 use Rattle.wire.specs.Answer.Ans.{done, need, hickup, broken}
-use Rattle.wire.specs.Parser.{pick, ret, refuse, choose, having, lacking, _>>=_}
+use Rattle.wire.specs.Parser.{pick, refuse, lacking, _>>=_}
 use Rattle.wire.specs.Run.{range, bytes}
 use Rattle.strings.specs.Utf8.{validUpTo}
 use Rattle.mark.specs.First.{pattern, find}
@@ -43,7 +43,7 @@ use Rattle.filter.specs.declared.Filter.{Filter}
 use Rattle.filtering.specs.declared.OptExtended.{OptExtended}
 use Rattle.payload.specs.Payload as pay
 use Rattle.payload.specs.Payload.{payload}
-use Rattle.parse.specs.Message.{havingFrom, seen, maybeExtended, headersOf, finished, headers, routed, passed, item, body, message}
+use Rattle.parse.specs.Message.{havingFrom, seen, maybeExtended, finished, headers, routed, passed, item, body, message}
 use Rattle.parse.specs.declared.Headers.{Headers}
 use Rattle.reasons.specs.Reasons.{isOneOf}
 use Rattle.reasons.proofs.Gives.{Of, Gives, ret-gives, refuse-gives, then-gives, times-gives, numeric-gives, bytes-gives, having-gives, giving}

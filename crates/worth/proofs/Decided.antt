@@ -2,7 +2,7 @@
 -- Assumes nothing.
 use Prim.Native.Nat.{ℕ, _+_, _-_, _≤_}
 use native.Mathlib.Omega.{arith}
-use mathlib.Core.Path.{_≡_, refl, sym, ap, _∙_, subst}
+use mathlib.Core.Path.{_≡_, refl, sym, subst}
 use mathlib.Core.Bool.{Bool, true, false}
 use mathlib.Core.List.{List}
 use lib.ListN.{length}
@@ -13,7 +13,7 @@ use Rattle.wire.specs.Answer.Ans.{done, need, hickup, broken}
 use Rattle.wire.specs.Parser.{pick, follow, ret, fail, choose, _>>=_}
 use Rattle.wire.specs.Number.{number, numberOf}
 use Rattle.wire.specs.Run.{range, bytes}
-use Rattle.wire.proofs.Step.{then-done, fixed-done, ret-is, choose-true, choose-false}
+use Rattle.wire.proofs.Step.{then-done, fixed-done, choose-true, choose-false}
 use Rattle.messageinfo.specs.MessageInfo.{controlOf}
 use Rattle.filtering.specs.declared.OptExtended.{OptExtended}
 use Rattle.payload.specs.Payload.{isVerbose, isControl, control, plain, payload}

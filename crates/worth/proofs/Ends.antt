@@ -2,13 +2,12 @@
 -- Assumes nothing.
 use Prim.Native.Nat.{ℕ, _+_, _*_, _≤_}
 use native.Mathlib.Omega.{arith}
-use mathlib.Core.Path.{_≡_, refl, sym, _∙_, subst}
+use mathlib.Core.Path.{_≡_, sym, _∙_, subst}
 use mathlib.Core.Bool.{Bool, true, false}
 use mathlib.Core.List.{List}
 use lib.ListN.{length}
 use Rattle.wire.specs.Answer.Ans.{done}
 use Rattle.wire.specs.Parser.{ret, here, choose}
-use Rattle.wire.specs.Lawful.{Lawful}
 use Rattle.wire.specs.Number.{numberOf}
 use Rattle.wire.specs.declared.Range.{Range}
 use Rattle.wire.proofs.Step.{ends}

@@ -1,11 +1,10 @@
 -- Needs at work, by computing: there are messages of which step 5 gives the need; a verbose one may wait on behind it; and needs of earlier steps say less.
-use Prim.Native.Nat.{ℕ}
 use native.Mathlib.Omega.{arith}
 use mathlib.Core.Path.{_≡_, refl}
-use mathlib.Core.Bool.{Bool, true, false}
-use mathlib.Core.List.{List, [], _∷_, _++_}
+use mathlib.Core.Bool.{true, false}
+use mathlib.Core.List.{[], _∷_, _++_}
 use lib.ListN.{replicate}
-use Rattle.wire.specs.Parser.{_>>=_, ret, here, refuse, choose, asking, having, fixed}
+use Rattle.wire.specs.Parser.{_>>=_, ret, here, choose, asking, having, fixed}
 use Rattle.wire.specs.Number.{number, numberOf}
 use Rattle.wire.specs.Run.{bytes}
 use Rattle.strings.specs.Text.{identified, text, textOf}

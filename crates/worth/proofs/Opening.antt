@@ -86,4 +86,3 @@ behind-nothing s = then-done here _ s (length s) (here-is s (length s)) ∙ then
 pub opening-law : (t : Bool) → Lawful (opening t)
 unfolding opening
 opening-law t = choose-law t _ _ (storage-law openingBehind behind-law behind-nothing) (behind-law OptStored.Absent)
-

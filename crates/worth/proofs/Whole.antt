@@ -6,8 +6,8 @@
 -- That fewer bytes leave it Incomplete is `whole-honest` (facts). Assumes nothing.
 use Prim.Native.Nat.{ℕ}
 use native.Mathlib.Omega.{arith}
-use mathlib.Core.Path.{_≡_, refl, sym, ap, _∙_, subst}
-use mathlib.Core.Bool.{Bool, true, false}
+use mathlib.Core.Path.{_≡_, refl, ap}
+use mathlib.Core.Bool.{Bool, false}
 use mathlib.Core.List.{List, _++_}
 use lib.ListN.{length}
 use Rattle.wire.specs.Answer.{Ans, Carried, Numbered, numbered}
@@ -16,7 +16,7 @@ use Rattle.filter.specs.Filter.{filterOf}
 use Rattle.filter.specs.declared.Filter.{Filter}
 use Rattle.filter.specs.declared.FilterAns.{FilterAns}
 use Rattle.payload.specs.Payload.{isVerbose}
-use Rattle.parse.specs.Message.{Answer, message, judged, messageOf, numberedMessage}
+use Rattle.parse.specs.Message.{message, judged, messageOf, numberedMessage}
 use Rattle.parse.specs.declared.ParsedMessage.{ParsedMessage}
 use Rattle.worth.specs.Opening.{Opening, opening}
 use Rattle.worth.specs.Need.{Short, ByLength, Whose, DecidedCall}

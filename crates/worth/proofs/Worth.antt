@@ -13,9 +13,9 @@ use mathlib.Core.List.{List, _++_}
 use lib.ListN.{length, length-append}
 use lib.Dec.{leb}
 use borrow.Author.Tests.{le-leb, lt-leb, leb-true, leb-false}
-use Rattle.wire.specs.Answer.{Ans, Parser, Carried, Numbered, numbered}
+use Rattle.wire.specs.Answer.{Ans, Parser, numbered}
 use Rattle.wire.specs.Answer.Ans.{done, need, hickup, broken}
-use Rattle.wire.specs.Parser.{pick, lacking, _>>=_}
+use Rattle.wire.specs.Parser.{lacking, _>>=_}
 use Rattle.wire.specs.Lawful.{Kept}
 use Rattle.wire.proofs.Step.{ends, then-done, then-need, then-hickup, then-broken}
 use Rattle.headertype.specs.HeaderType.{allHeaders, headerTypeByte, overallLength}
