@@ -13,6 +13,7 @@ use Rattle.wire.specs.Answer.Ans.{done, need, hickup, broken}
 use Rattle.wire.specs.Parser.{pick, follow, ret, fail, choose, _>>=_}
 use Rattle.wire.specs.Number.{number, numberOf}
 use Rattle.wire.specs.Run.{range, bytes}
+use Rattle.wire.proofs.Runs.{take-done}
 use Rattle.wire.proofs.Step.{then-done, fixed-done, choose-true, choose-false}
 use Rattle.messageinfo.specs.MessageInfo.{controlOf}
 use Rattle.filtering.specs.declared.OptExtended.{OptExtended}
@@ -35,14 +36,10 @@ fail-decided : (A : Type 0) (s : List ℕ) (at all : ℕ) → Decided all (fail 
 unfolding fail
 fail-decided A s at all = tt
 
-bytes-there : (s : List ℕ) (at n : ℕ) → at + n ≤ length s → bytes n s at ≡ done (range at n) (at + n)
-unfolding bytes
-bytes-there s at n h = fixed-done n (λ s at. range at n) s at (omega arith)
-
 -- the bytes of a run, and then a value made of them
 run-decided : {A : Type 0} (n : ℕ) (f : _ → A) (s : List ℕ) (at all : ℕ) → at + n ≡ all → all ≤ length s → Decided all ((bytes n >>= (λ r. ret (f r))) s at)
 run-decided n f s at all e h =
-    then-decided (bytes n) _ s at all (bytes-there s at n (omega arith)) (subst (λ (b : ℕ). Decided b (ret (f (range at n)) s (at + n))) e (ret-decided _ s (at + n)))
+    then-decided (bytes n) _ s at all (sym (take-done n s at (length s - at) refl (omega arith))) (subst (λ (b : ℕ). Decided b (ret (f (range at n)) s (at + n))) e (ret-decided _ s (at + n)))
 
 -- an id of w bytes, and then the rest: if a payload of n bytes has room for the id
 module _ (big : Bool) (w n : ℕ) (f : ℕ → _ → PayloadContent) (s : List ℕ) (at : ℕ) (there : at + n ≤ length s) where

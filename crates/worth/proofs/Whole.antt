@@ -10,8 +10,9 @@ use mathlib.Core.Path.{_≡_, refl, ap}
 use mathlib.Core.Bool.{Bool, false}
 use mathlib.Core.List.{List, _++_}
 use lib.ListN.{length}
-use Rattle.wire.specs.Answer.{Ans, Carried, Numbered, numbered}
-use Rattle.wire.specs.Answer.Ans.{done, need, hickup, broken}
+use Rattle.wire.specs.Answer.{Carried, Numbered}
+use Rattle.wire.specs.Answer.Ans.{done, need}
+use Rattle.wire.proofs.Laws.{of-need}
 use Rattle.filter.specs.Filter.{filterOf}
 use Rattle.filter.specs.declared.Filter.{Filter}
 use Rattle.filter.specs.declared.FilterAns.{FilterAns}
@@ -24,16 +25,6 @@ use Rattle.worth.proofs.Worth.{given, worth, of-step-5, whose}
 
 abbrev waits : ℕ → Numbered ParsedMessage
 waits n = record { number = 2; carries = Carried.need n }
-
--- by its number, Incomplete with a need is the rule's need
-of-need : (x : Ans ParsedMessage) (n : ℕ) → numbered x ≡ waits n → x ≡ need n
-of-need (done a b) n e = absurd (omega (arith, ap (λ (x : Numbered ParsedMessage). x .number) e))
-of-need (need m) n e =
-    let c : _≡_ {A = Carried ParsedMessage} (Carried.need m) (Carried.need n) = ap (λ (x : Numbered ParsedMessage). x .carries) e in
-    let z : m ≡ n = cc in
-    ap need z
-of-need (hickup r) n e = absurd (omega (arith, ap (λ (x : Numbered ParsedMessage). x .number) e))
-of-need broken n e = absurd (omega (arith, ap (λ (x : Numbered ParsedMessage). x .number) e))
 
 module _ (f : List ℕ) (t : Bool) (s : List ℕ) where
   -- a call that says Incomplete had a good filter
