@@ -399,6 +399,7 @@ module _ {A : Type 0} (form : Form A) (sound : Sound form) (f : List ℕ) where
                 ∙ ap (so u) (sym is),
           )
 
+  -- a walk that went on past where it waited, as the call has it
   module _ (n : ℕ) (s t : List ℕ) (st : State) (T : List A) (filter : Filter) (h : st .used ≤ form .holds (length T)) (l : st .at + length (s ++ t) ≤ limit)
       (is : (x : List ℕ) → st .at + length x ≤ limit → call form f n x st T ≡ laid form T (st .used) (out form sound f filter n x st T)) where
     abbrev before : Out ℕ ℕ
