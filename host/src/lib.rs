@@ -27,7 +27,8 @@ pub use message::{message, Cursor, ExtendedHeader, Message, MessageType, Parsed,
 pub enum Refusal {
     /// The filter's bytes break a rule.
     BadFilter,
-    /// More bytes could help: at least so many, 0 for unknown. If the headers are there and the message isn't verbose, exactly so many decide it.
+    /// More bytes could help: at least so many, 0 for unknown. Of [`message`], if the headers are there and it isn't verbose or the filter
+    /// drops it, exactly so many decide it.
     Incomplete(u64),
     /// The bytes are no message, whatever follows.
     Hickup(Reason),

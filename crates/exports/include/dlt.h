@@ -13,8 +13,8 @@
 #include <stddef.h>
 #include <stdint.h>
 
-/* An answer's number. With DLT_INCOMPLETE `value` is the need: at least so many more bytes (0: unknown), and exactly so many decide the message if its
-   headers are there and it isn't verbose, or the filter drops it (crates/worth). With DLT_HICKUP it is the reason, with DLT_SHORT_OUT how many numbers
+/* An answer's number. With DLT_INCOMPLETE `value` is the need (0: unknown): of dlt_message fewer bytes never help, and exactly so many decide it if the
+   headers are there and the message isn't verbose or the filter drops it (crates/worth). With DLT_HICKUP it is the reason, with DLT_SHORT_OUT how many numbers
    `out` must have room for: that is told first, whatever the other arguments are. `used` is how many bytes were used, where the number is
    DLT_DONE. Only DLT_DONE changes what `out` holds. */
 #define DLT_DONE 0
