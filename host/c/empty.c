@@ -13,6 +13,7 @@ static void expect(const char *what, dlt_answer got, uint64_t number, uint64_t v
 
 int main(void) {
     static const uint8_t message[8] = {0x22, 7, 0, 8, 0, 0, 0, 42};
+    static const uint8_t named[12] = {0x24, 0, 0, 12, 'A', 'P', 'P', 0, 0, 0, 0, 42};
     /* a network trace of a bool and three raw bytes */
     static const uint8_t trace[28] = {0x21, 0, 0, 14, 0x15, 2, 0, 0, 0, 0, 0, 0, 0, 0, 0x11, 0, 0, 0, 1, 0, 4, 0, 0, 3, 0, 7, 8, 9};
     uint64_t out[DLT_MESSAGE_SIZE] = {0};
@@ -22,6 +23,9 @@ int main(void) {
     expect("no bytes", dlt_message(NULL, 0, NULL, 0, false, out, DLT_MESSAGE_SIZE), DLT_INCOMPLETE, 1, 0);
     expect("no bytes, storage", dlt_message(NULL, 0, NULL, 0, true, out, DLT_MESSAGE_SIZE), DLT_INCOMPLETE, 0, 0);
     expect("no room", dlt_message(message, 8, NULL, 0, false, NULL, 0), DLT_SHORT_OUT, DLT_MESSAGE_SIZE, 0);
+    expect("no room for an argument", dlt_argument(NULL, 0, 0, 1, false, NULL, 0), DLT_SHORT_OUT, DLT_ARGUMENT_SIZE, 0);
+    expect("an ECU id of APP and a zero byte", dlt_message(named, 12, NULL, 0, false, out, DLT_MESSAGE_SIZE), DLT_DONE, 0, 12);
+    wrong |= out[DLT_MESSAGE_ECU_ENDED] != DLT_ENDED_ZERO || out[DLT_MESSAGE_CONTEXT_ENDED] != DLT_ENDED_NONE;
     expect("an argument of no bytes", dlt_argument(NULL, 0, 0, 1, false, out, DLT_ARGUMENT_SIZE), DLT_INCOMPLETE, 4, 0);
     expect("a raw value of no bytes", dlt_raw_value(NULL, 0, 0, 1, false, out, DLT_RAW_SIZE), DLT_INCOMPLETE, 4, 0);
     expect("a raw value", dlt_raw_value(trace, 28, 14, 2, false, out, DLT_RAW_SIZE), DLT_DONE, 1, 28);

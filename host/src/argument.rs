@@ -1,6 +1,6 @@
 //! Arguments, handed out one a call.
 
-use crate::{maybe_text, raw, refused, text, Cursor, RawCursor, Refusal, Text};
+use crate::{maybe_text, raw, refused, run, text_if, Cursor, RawCursor, Refusal, Run, Text};
 
 /// An argument, and where it stands in the bytes.
 #[derive(Clone, Copy, Debug, PartialEq)]
@@ -68,7 +68,7 @@ pub enum Value {
     F32(f32),
     F64(f64),
     String(Text),
-    Raw(Text),
+    Raw(Run),
 }
 
 /// The arguments of a list, read from the bytes that its message was read from. It ends after a refusal.
@@ -146,7 +146,7 @@ pub struct RawValues<'a> {
 }
 
 impl Iterator for RawValues<'_> {
-    type Item = Result<Text, Refusal>;
+    type Item = Result<Run, Refusal>;
 
     fn next(&mut self) -> Option<Self::Item> {
         if self.over {
@@ -160,7 +160,7 @@ impl Iterator for RawValues<'_> {
         }
         self.trace.at = out[raw::RAW_NEXT] as usize;
         self.trace.left = out[raw::RAW_LEFT] as usize;
-        (!self.over).then(|| Ok(text(&out, raw::RAW_START)))
+        (!self.over).then(|| Ok(run(&out, raw::RAW_START)))
     }
 }
 
@@ -213,8 +213,8 @@ fn argument(out: &[u64]) -> Argument {
             has_variable_info: out[raw::ARGUMENT_VARIABLE_INFO] == 1,
             has_trace_info: out[raw::ARGUMENT_TRACE_INFO] == 1,
         },
-        name: maybe_text(out, raw::ARGUMENT_NAME),
-        unit: maybe_text(out, raw::ARGUMENT_UNIT),
+        name: maybe_text(out, raw::ARGUMENT_NAME, raw::ARGUMENT_NAME_ENDED),
+        unit: maybe_text(out, raw::ARGUMENT_UNIT, raw::ARGUMENT_UNIT_ENDED),
         fixed_point: (out[raw::ARGUMENT_POINT] == 1).then(|| fixed_point(out)),
         value: value(out),
     }
@@ -242,6 +242,9 @@ fn fixed_point(out: &[u64]) -> FixedPoint {
 }
 
 fn value(out: &[u64]) -> Value {
+    if let Some(text) = text_if(out[raw::ARGUMENT_VALUE] == 13, out, raw::ARGUMENT_FIRST, raw::ARGUMENT_VALUE_ENDED) {
+        return Value::String(text);
+    }
     let (first, second) = (out[raw::ARGUMENT_FIRST], out[raw::ARGUMENT_SECOND]);
     match out[raw::ARGUMENT_VALUE] {
         0 => Value::Bool(first as u8),
@@ -257,7 +260,6 @@ fn value(out: &[u64]) -> Value {
         10 => Value::I128((u128::from(first) << 64 | u128::from(second)) as i128),
         11 => Value::F32(f32::from_bits(first as u32)),
         12 => Value::F64(f64::from_bits(first)),
-        13 => Value::String(text(out, raw::ARGUMENT_FIRST)),
-        _ => Value::Raw(text(out, raw::ARGUMENT_FIRST)),
+        _ => Value::Raw(run(out, raw::ARGUMENT_FIRST)),
     }
 }

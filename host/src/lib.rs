@@ -1,6 +1,7 @@
 //! The proved calls for a Rust host: safe functions with Rust's types over the archive's numbers.
 //!
-//! Texts are parts of the bytes that the caller gave: a [`Text`] is a place and a length, and [`Text::of`] gives the bytes.
+//! Texts are parts of the bytes that the caller gave: a [`Text`] is a place, a length and why it ended, and [`Text::of`] gives the bytes. A [`Run`] is the same
+//! of bytes that are no text.
 //!
 //! ```
 //! // document 01's P2: a message of eight bytes, big-endian, with the id 42 and nothing behind it
@@ -9,7 +10,7 @@
 //! assert_eq!(used, 8);
 //! let host::Parsed::Item(message) = parsed else { panic!() };
 //! assert_eq!(message.header.message_counter, 7);
-//! assert_eq!(message.payload, host::Payload::NonVerbose { id: 42, rest: host::Text { start: 8, len: 0 } });
+//! assert_eq!(message.payload, host::Payload::NonVerbose { id: 42, rest: host::Run { start: 8, len: 0 } });
 //! ```
 
 mod argument;
@@ -79,20 +80,77 @@ impl Reason {
     }
 }
 
-/// A part of the bytes that were given.
+/// Why a text ended where it did. Its content is the bytes before the first zero byte, or all of its size; the text is the longest part of the content, from
+/// its start on, that is UTF-8.
+#[derive(Clone, Copy, Debug, PartialEq, Eq)]
+pub enum Ended {
+    /// 1: a zero byte ended it.
+    Zero,
+    /// 2: it fills its size, as every signal string does.
+    Size,
+    /// 3: bytes that are no UTF-8 came first, a sequence cut by a zero byte or by the size too.
+    Invalid,
+}
+
+impl Ended {
+    /// Every reason, in the order of the numbers.
+    pub const ALL: [Ended; 3] = [Ended::Zero, Ended::Size, Ended::Invalid];
+
+    /// The number that the archive has for it; 0 is that of no text.
+    ///
+    /// ```
+    /// assert_eq!(host::Ended::ALL.map(|ended| ended.number()), [1, 2, 3]);
+    /// ```
+    pub fn number(self) -> u64 {
+        match self {
+            Ended::Zero => raw::ENDED_ZERO,
+            Ended::Size => raw::ENDED_SIZE,
+            Ended::Invalid => raw::ENDED_INVALID,
+        }
+    }
+
+    fn of(number: u64) -> Ended {
+        // of a text that is there no other number comes out
+        Ended::ALL.into_iter().find(|ended| ended.number() == number).unwrap_or_else(|| unreachable!("a text's reason {number}"))
+    }
+}
+
+/// A text: a part of the bytes that were given, always UTF-8.
 #[derive(Clone, Copy, Debug, PartialEq, Eq)]
 pub struct Text {
     /// Where it stands.
     pub start: usize,
     /// How many bytes it has.
     pub len: usize,
+    /// Why it has no more.
+    pub ended: Ended,
 }
 
 impl Text {
     /// The bytes themselves, of the slice that the call was given.
     ///
     /// ```
-    /// assert_eq!(host::Text { start: 1, len: 2 }.of(b"abcd"), b"bc");
+    /// assert_eq!(host::Text { start: 1, len: 2, ended: host::Ended::Size }.of(b"abcd"), b"bc");
+    /// ```
+    pub fn of<'a>(&self, bytes: &'a [u8]) -> &'a [u8] {
+        &bytes[self.start..self.start + self.len]
+    }
+}
+
+/// A part of the bytes that were given which is no text: a raw value, the rest of a payload.
+#[derive(Clone, Copy, Debug, PartialEq, Eq)]
+pub struct Run {
+    /// Where it stands.
+    pub start: usize,
+    /// How many bytes it has.
+    pub len: usize,
+}
+
+impl Run {
+    /// The bytes themselves, of the slice that the call was given.
+    ///
+    /// ```
+    /// assert_eq!(host::Run { start: 1, len: 2 }.of(b"abcd"), b"bc");
     /// ```
     pub fn of<'a>(&self, bytes: &'a [u8]) -> &'a [u8] {
         &bytes[self.start..self.start + self.len]
@@ -112,12 +170,22 @@ fn refused(answer: raw::Answer) -> Result<(), Refusal> {
     }
 }
 
-fn text(out: &[u64], at: usize) -> Text {
-    Text { start: out[at] as usize, len: out[at + 1] as usize }
+fn run(out: &[u64], at: usize) -> Run {
+    Run { start: out[at] as usize, len: out[at + 1] as usize }
 }
 
-fn maybe_text(out: &[u64], at: usize) -> Option<Text> {
-    (out[at] == 1).then(|| text(out, at + 1))
+/// A text, if there is one, by the places of its start and of why it ended. What is absent has no reason.
+fn text_if(there: bool, out: &[u64], at: usize, ended: usize) -> Option<Text> {
+    match out[ended] {
+        raw::ENDED_NONE if !there => None,
+        number if there => Some(Text { start: out[at] as usize, len: out[at + 1] as usize, ended: Ended::of(number) }),
+        number => unreachable!("no text, and the reason {number}"),
+    }
+}
+
+/// The same of a flag and the text behind it.
+fn maybe_text(out: &[u64], at: usize, ended: usize) -> Option<Text> {
+    text_if(out[at] == 1, out, at + 1, ended)
 }
 
 /// The first place from `at` on where the storage pattern stands.
@@ -167,32 +235,33 @@ mod tests {
         for len in 0..raw::MESSAGE_SIZE {
             let mut out = vec![9; len];
             let answer = raw::message(&bytes, &[1], false, &mut out);
-            assert_eq!(answer, raw::Answer { number: raw::SHORT_OUT, value: 33, used: 0 });
+            assert_eq!(answer, raw::Answer { number: raw::SHORT_OUT, value: raw::MESSAGE_SIZE as u64, used: 0 });
             assert!(out.iter().all(|&n| n == 9));
         }
         for len in 0..raw::ARGUMENT_SIZE {
             let mut out = vec![9; len];
-            assert_eq!(raw::argument(&bytes, 0, 1, false, &mut out).number, raw::SHORT_OUT);
-            assert_eq!(raw::signal(&[0x42], &bytes, 0, 0, false, &mut out).number, raw::SHORT_OUT);
+            let short = raw::Answer { number: raw::SHORT_OUT, value: raw::ARGUMENT_SIZE as u64, used: 0 };
+            assert_eq!(raw::argument(&bytes, 0, 1, false, &mut out), short);
+            assert_eq!(raw::signal(&[0x42], &bytes, 0, 0, false, &mut out), short);
             assert!(out.iter().all(|&n| n == 9));
         }
         for len in 0..raw::RAW_SIZE {
             let mut out = vec![9; len];
-            assert_eq!(raw::raw_value(&bytes, 0, 1, false, &mut out), raw::Answer { number: raw::SHORT_OUT, value: 5, used: 0 });
+            assert_eq!(raw::raw_value(&bytes, 0, 1, false, &mut out), raw::Answer { number: raw::SHORT_OUT, value: raw::RAW_SIZE as u64, used: 0 });
             assert!(out.iter().all(|&n| n == 9));
         }
     }
 
     #[test]
     fn a_refusal_changes_nothing_lent() {
-        let mut out = [9; 40];
+        let mut out = [9; raw::MESSAGE_SIZE + 7];
         assert_eq!(raw::message(&[0x22, 7, 0, 8], &[], false, &mut out).number, raw::INCOMPLETE);
         assert_eq!(raw::message(&[0x22, 7, 0, 8], &[1], false, &mut out).number, raw::BAD_FILTER);
         assert_eq!(raw::message(&[0x22, 7, 0, 3], &[], false, &mut out).number, raw::HICKUP);
         assert_eq!(raw::message(&[0x22, 7, 0, 7, 0, 0, 0], &[], false, &mut out).number, raw::UNRECOVERABLE);
-        assert_eq!(out, [9; 40]);
+        assert_eq!(out, [9; raw::MESSAGE_SIZE + 7]);
         raw::message(&[0x22, 7, 0, 8, 0, 0, 0, 42], &[], false, &mut out);
-        assert_eq!(out[33..], [9; 7]);
+        assert_eq!(out[raw::MESSAGE_SIZE..], [9; 7]);
     }
 
     #[test]
@@ -211,7 +280,7 @@ mod tests {
     #[test]
     fn a_position_past_the_end_is_nothing_left() {
         assert_eq!(forward_to_next_storage_header(b"DLT\x01", usize::MAX), None);
-        let mut out = [0; 23];
+        let mut out = [0; raw::ARGUMENT_SIZE];
         assert_eq!(raw::argument(&[1, 2], usize::MAX, 1, true, &mut out), raw::Answer { number: 2, value: 4, used: 0 });
     }
 }

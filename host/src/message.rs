@@ -1,6 +1,6 @@
 //! A message: its headers and its payload.
 
-use crate::{maybe_text, raw, refused, text, Refusal, Text};
+use crate::{maybe_text, raw, refused, run, text_if, Refusal, Run, Text};
 
 /// What a message was parsed to.
 #[derive(Clone, Copy, Debug, PartialEq, Eq)]
@@ -71,8 +71,8 @@ pub enum MessageType {
 #[derive(Clone, Copy, Debug, PartialEq, Eq)]
 pub enum Payload {
     Verbose(Cursor),
-    NonVerbose { id: u32, rest: Text },
-    Control { id: u8, rest: Text },
+    NonVerbose { id: u32, rest: Run },
+    Control { id: u8, rest: Run },
     NetworkTrace(RawCursor),
 }
 
@@ -115,15 +115,19 @@ pub fn message(bytes: &[u8], filter: &[u8], with_storage_header: bool) -> Result
 }
 
 fn item(out: &[u64]) -> Message {
+    let stored_ecu = text_if(out[raw::MESSAGE_STORED] == 1, out, raw::MESSAGE_STORED_ECU, raw::MESSAGE_STORED_ECU_ENDED);
+    let has_extended = out[raw::MESSAGE_EXTENDED] == 1;
+    let application = text_if(has_extended, out, raw::MESSAGE_APPLICATION, raw::MESSAGE_APPLICATION_ENDED);
+    let context = text_if(has_extended, out, raw::MESSAGE_CONTEXT, raw::MESSAGE_CONTEXT_ENDED);
     Message {
-        storage_header: (out[raw::MESSAGE_STORED] == 1).then(|| StorageHeader {
+        storage_header: stored_ecu.map(|ecu_id| StorageHeader {
             seconds: out[raw::MESSAGE_SECONDS] as u32,
             microseconds: out[raw::MESSAGE_MICROSECONDS] as u32,
-            ecu_id: text(out, raw::MESSAGE_STORED_ECU),
+            ecu_id,
             skipped: out[raw::MESSAGE_SKIPPED] as usize,
         }),
         header: standard(out),
-        extended_header: (out[raw::MESSAGE_EXTENDED] == 1).then(|| extended(out)),
+        extended_header: application.zip(context).map(|(application_id, context_id)| extended(out, application_id, context_id)),
         payload: payload(out),
     }
 }
@@ -138,14 +142,14 @@ fn standard(out: &[u64]) -> StandardHeader {
         big_endian: out[raw::MESSAGE_BIG] == 1,
         has_extended_header: out[raw::MESSAGE_HAS_EXTENDED] == 1,
         message_counter: out[raw::MESSAGE_COUNTER] as u8,
-        ecu_id: maybe_text(out, raw::MESSAGE_ECU),
+        ecu_id: maybe_text(out, raw::MESSAGE_ECU, raw::MESSAGE_ECU_ENDED),
         session_id: maybe_number(out, raw::MESSAGE_SESSION),
         timestamp: maybe_number(out, raw::MESSAGE_TIMESTAMP),
         payload_length: out[raw::MESSAGE_PAYLOAD_LENGTH] as u16,
     }
 }
 
-fn extended(out: &[u64]) -> ExtendedHeader {
+fn extended(out: &[u64], application_id: Text, context_id: Text) -> ExtendedHeader {
     let subtype = out[raw::MESSAGE_SUBTYPE] as u8;
     ExtendedHeader {
         verbose: out[raw::MESSAGE_VERBOSE] == 1,
@@ -157,13 +161,13 @@ fn extended(out: &[u64]) -> ExtendedHeader {
             3 => MessageType::Control(subtype),
             kind => MessageType::Unknown(kind as u8, subtype),
         },
-        application_id: text(out, raw::MESSAGE_APPLICATION),
-        context_id: text(out, raw::MESSAGE_CONTEXT),
+        application_id,
+        context_id,
     }
 }
 
 fn payload(out: &[u64]) -> Payload {
-    let rest = text(out, raw::MESSAGE_START);
+    let rest = run(out, raw::MESSAGE_START);
     let (at, left, big_endian) = (rest.start, rest.len, out[raw::MESSAGE_LIST_BIG] == 1);
     let id = out[raw::MESSAGE_ID];
     match out[raw::MESSAGE_PAYLOAD] {

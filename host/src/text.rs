@@ -12,13 +12,17 @@ fn refusal(refusal: Refusal) -> String {
     }
 }
 
-fn shown(bytes: &[u8], text: Text) -> String {
+fn run(bytes: &[u8], run: Run) -> String {
     let mut line = String::new();
-    for byte in text.of(bytes) {
+    for byte in run.of(bytes) {
         write!(line, "{byte:02x}").unwrap();
     }
-    write!(line, "@{}+{}", text.start, text.len).unwrap();
+    write!(line, "@{}+{}", run.start, run.len).unwrap();
     line
+}
+
+fn shown(bytes: &[u8], text: Text) -> String {
+    run(bytes, Run { start: text.start, len: text.len })
 }
 
 fn labelled(bytes: &[u8], text: Option<Text>) -> String {
@@ -29,16 +33,39 @@ fn or_dash(number: Option<impl ToString>) -> String {
     number.map_or("-".to_string(), |number| number.to_string())
 }
 
-/// The answer to `msg`.
-pub fn msg(storage: bool, filter: &[u8], bytes: &[u8]) -> String {
-    match message(bytes, filter, storage) {
-        Err(no) => refusal(no),
-        Ok((Parsed::FilteredOut(length), used)) => format!("0 filtered used={used} plen={length}"),
-        Ok((Parsed::Item(message), used)) => item(bytes, &message, used),
+/// Why a text ended; `-` for no text.
+fn letter(text: Option<Text>) -> &'static str {
+    match text.map(|text| text.ended) {
+        None => "-",
+        Some(Ended::Zero) => "z",
+        Some(Ended::Size) => "s",
+        Some(Ended::Invalid) => "u",
     }
 }
 
-fn item(bytes: &[u8], message: &Message, used: usize) -> String {
+/// The answer to `msg`, or with `why` to `why msg`.
+pub fn msg(storage: bool, filter: &[u8], bytes: &[u8], why: bool) -> String {
+    match message(bytes, filter, storage) {
+        Err(no) => refusal(no),
+        Ok((Parsed::FilteredOut(length), used)) => format!("0 filtered used={used} plen={length}"),
+        Ok((Parsed::Item(message), used)) if why => item(bytes, &message, used, true) + &ids_ended(&message),
+        Ok((Parsed::Item(message), used)) => item(bytes, &message, used, false),
+    }
+}
+
+/// Why each identifier of a message ended.
+fn ids_ended(message: &Message) -> String {
+    let extended = message.extended_header;
+    let ids = [
+        message.storage_header.map(|header| header.ecu_id),
+        message.header.ecu_id,
+        extended.map(|header| header.application_id),
+        extended.map(|header| header.context_id),
+    ];
+    format!(" ends={}", ids.map(letter).join(","))
+}
+
+fn item(bytes: &[u8], message: &Message, used: usize, why: bool) -> String {
     let header = &message.header;
     let stored = message.storage_header.map_or("-".to_string(), |stored| {
         format!("{},{},.{},skip{}", stored.seconds, stored.microseconds, shown(bytes, stored.ecu_id), stored.skipped)
@@ -53,7 +80,7 @@ fn item(bytes: &[u8], message: &Message, used: usize) -> String {
         or_dash(header.session_id),
         or_dash(header.timestamp),
         message.extended_header.map_or("-".to_string(), |header| extended(bytes, &header)),
-        payload(bytes, message, used),
+        payload(bytes, message, used, why),
     )
 }
 
@@ -69,22 +96,35 @@ fn extended(bytes: &[u8], header: &ExtendedHeader) -> String {
     format!("v{},n{},{kind},.{application},.{context}", u8::from(header.verbose), header.argument_count)
 }
 
-fn payload(bytes: &[u8], message: &Message, end: usize) -> String {
+fn payload(bytes: &[u8], message: &Message, end: usize, why: bool) -> String {
     match message.payload {
-        Payload::NonVerbose { id, rest } => format!("N({id}){}", shown(bytes, rest)),
-        Payload::Control { id, rest } => format!("C({id}){}", shown(bytes, rest)),
+        Payload::NonVerbose { id, rest } => format!("N({id}){}", run(bytes, rest)),
+        Payload::Control { id, rest } => format!("C({id}){}", run(bytes, rest)),
         Payload::Verbose(list) => {
-            let all = arguments(bytes, list).map(|one| one.map_or_else(refusal, |one| argument(bytes, &one)));
+            let all = arguments(bytes, list).map(|one| one.map_or_else(refusal, |one| argument(bytes, &one, why)));
             format!("V({}-{end}){}", list.at, all.collect::<String>())
         }
         Payload::NetworkTrace(trace) => {
-            let all = raw_values(bytes, trace).map(|one| one.map_or_else(refusal, |value| format!("[{}]", shown(bytes, value))));
+            let all = raw_values(bytes, trace).map(|one| one.map_or_else(refusal, |value| format!("[{}]", run(bytes, value))));
             format!("T({}-{end}){}", trace.at, all.collect::<String>())
         }
     }
 }
 
-fn argument(bytes: &[u8], argument: &Argument) -> String {
+/// An argument, and with `why` behind it why each of its texts ended.
+fn argument(bytes: &[u8], argument: &Argument, why: bool) -> String {
+    let line = bare_argument(bytes, argument);
+    if !why {
+        return line;
+    }
+    let value = match argument.value {
+        Value::String(text) => Some(text),
+        _ => None,
+    };
+    format!("{line}{{{}}}", [argument.name, argument.unit, value].map(letter).join(","))
+}
+
+fn bare_argument(bytes: &[u8], argument: &Argument) -> String {
     let info = &argument.type_info;
     let kind = match info.kind {
         Kind::Bool => "Bool".to_string(),
@@ -129,7 +169,7 @@ fn value(bytes: &[u8], value: Value) -> String {
         Value::F32(x) => format!("f32:{:08x}", x.to_bits()),
         Value::F64(x) => format!("f64:{:016x}", x.to_bits()),
         Value::String(text) => format!("s:{}", shown(bytes, text)),
-        Value::Raw(text) => format!("r:{}", shown(bytes, text)),
+        Value::Raw(raw) => format!("r:{}", run(bytes, raw)),
     }
 }
 
@@ -146,12 +186,12 @@ pub fn consume(bytes: &[u8]) -> String {
     }
 }
 
-/// The answer to `args`.
-pub fn args(big: bool, words: &[u32], data: &[u8]) -> String {
+/// The answer to `args`, or with `why` to `why args`.
+pub fn args(big: bool, words: &[u32], data: &[u8], why: bool) -> String {
     match construct_arguments(big, words, data) {
         Err(no) => refusal(no),
         Ok((count, used)) => {
-            let all: Vec<String> = signals(big, words, data).map(|one| one.map_or_else(refusal, |one| argument(data, &one))).collect();
+            let all: Vec<String> = signals(big, words, data).map(|one| one.map_or_else(refusal, |one| argument(data, &one, why))).collect();
             if all.len() != count {
                 return format!("{count} counted, {} handed out", all.len());
             }
@@ -198,11 +238,17 @@ pub fn entry_text(entry: &crate::Entry) -> String {
 /// The answer to a request line of one of these kinds; None for any other line.
 pub fn answer(line: &str) -> Option<String> {
     let words: Vec<&str> = line.split(' ').collect();
-    match words[..] {
-        ["msg", storage @ ("0" | "1"), filter, bytes] => Some(msg(storage == "1", &hex(filter)?, &hex(bytes)?)),
+    let (why, words) = match words[..] {
+        ["why", ref words @ ..] => (true, words),
+        ref words => (false, words),
+    };
+    match *words {
+        ["msg", storage @ ("0" | "1"), filter, bytes] => Some(msg(storage == "1", &hex(filter)?, &hex(bytes)?, why)),
+        ["args", order @ ("L" | "l" | "B" | "b"), words, data] => Some(args(order.eq_ignore_ascii_case("b"), &hex_words(words)?, &hex(data)?, why)),
+        // the other requests aren't asked why
+        _ if why => None,
         ["fwd", bytes] => Some(fwd(&hex(bytes)?)),
         ["consume", bytes] => Some(consume(&hex(bytes)?)),
-        ["args", order @ ("L" | "l" | "B" | "b"), words, data] => Some(args(order.eq_ignore_ascii_case("b"), &hex_words(words)?, &hex(data)?)),
         ["index", cap, at, used, filter, bytes, ref limit @ ..] if limit.len() <= 1 => {
             let number = |word: &str| word.parse::<usize>().ok();
             let limit = limit.first().map(|word| number(word).ok_or(())).transpose().ok()?;

@@ -7,7 +7,7 @@ use crate::parse::{
     DltParseError,
 };
 use crate::request::{self, Request};
-use crate::text::{guarded, or_dash, refusal, text, used, Line};
+use crate::text::{ended, guarded, or_dash, refusal, text, used, Line};
 use crate::{arguments, message};
 use std::convert::TryFrom;
 use std::io::{BufRead, Write};
@@ -45,11 +45,11 @@ pub fn answer(line: &[u8]) -> String {
 
 fn ask(request: &Request) -> Line {
     match request {
-        Request::Message { storage, filter, bytes } => message::answer(*storage, filter, bytes),
-        Request::ZeroTerminated { size, bytes } => zero_terminated(*size, bytes),
+        Request::Message { storage, filter, bytes } => message::answer(*storage, filter, bytes, false),
+        Request::ZeroTerminated { size, bytes } => zero_terminated(*size, bytes, false),
         Request::Skip { bytes } => skip(bytes),
         Request::Consume { bytes } => consume(bytes),
-        Request::Arguments { big, words, bytes } => arguments::answer(*big, words, bytes),
+        Request::Arguments { big, words, bytes } => arguments::answer(*big, words, bytes, false),
         Request::Forward { bytes } => forward(bytes),
         Request::Length { bytes } => length(bytes),
         Request::Index { table, resume, used, filter, bytes, limit } => {
@@ -58,16 +58,30 @@ fn ask(request: &Request) -> Line {
         Request::List { bytes } => index::listing(bytes, "|"),
         Request::MessageInfo { byte } => message_info(*byte),
         Request::TypeInfo { word } => type_info(*word),
+        Request::Why { of } => ask_why(of),
     }
 }
 
-fn zero_terminated(size: u64, bytes: &[u8]) -> Line {
+/// The old answer, and why each of its texts ended.
+fn ask_why(of: &Request) -> Line {
+    match of {
+        Request::Message { storage, filter, bytes } => message::answer(*storage, filter, bytes, true),
+        Request::ZeroTerminated { size, bytes } => zero_terminated(*size, bytes, true),
+        Request::Arguments { big, words, bytes } => arguments::answer(*big, words, bytes, true),
+        _ => Err("oracle: a request without texts".to_string()),
+    }
+}
+
+fn zero_terminated(size: u64, bytes: &[u8], why: bool) -> Line {
     let Ok(size) = usize::try_from(size) else {
         return Err("oracle: this machine's sizes have fewer than 64 bits".to_string());
     };
     match guarded(|| dlt_zero_terminated_string(bytes, size))? {
         Err(error) => refusal(&error),
-        Ok((rest, value)) => Ok(format!("0 used={} .{}", used(bytes, rest)?, text(bytes, 0, value.as_bytes())?)),
+        Ok((rest, value)) => {
+            let line = format!("0 used={} .{}", used(bytes, rest)?, text(bytes, 0, value.as_bytes())?);
+            Ok(if why { format!("{line} end={}", ended(bytes, 0, size, value)?) } else { line })
+        }
     }
 }
 

@@ -8,7 +8,7 @@ use crate::dlt::{
     Value,
 };
 use crate::parse::{construct_arguments, dlt_argument, DltParseError};
-use crate::text::{disagree, expect, guarded, refusal, text, used, Line};
+use crate::text::{disagree, ended, expect, guarded, refusal, text, used, Line};
 use byteorder::{BigEndian, LittleEndian};
 use std::convert::TryFrom;
 
@@ -22,7 +22,9 @@ type Signals<'a> = Result<(&'a [u8], Vec<Argument>), DltParseError>;
 #[derive(Default)]
 struct Places {
     name: usize,
+    name_size: usize,
     unit: usize,
+    unit_size: usize,
     fixed_point: usize,
     value: usize,
     end: usize,
@@ -76,17 +78,19 @@ fn places_in_message(all: &[u8], big: bool, from: usize, info: &TypeInfo) -> Pla
 /// A name, if there is one, then a value of `width` bytes.
 fn after_name(all: &[u8], big: bool, at: usize, info: &TypeInfo, width: usize) -> Places {
     let name = at + 2;
-    let value = if info.has_variable_info { name + size_at(all, big, at) } else { at };
-    Places { name, value, end: value + width, ..Places::default() }
+    let name_size = size_at(all, big, at);
+    let value = if info.has_variable_info { name + name_size } else { at };
+    Places { name, name_size, value, end: value + width, ..Places::default() }
 }
 
 /// Name and unit, if they are there, a fixed point of `scale` bytes, then a value of `width` bytes.
 fn after_both(all: &[u8], big: bool, at: usize, info: &TypeInfo, scale: usize, width: usize) -> Places {
     let name = at + 4;
-    let unit = name + size_at(all, big, at);
-    let fixed_point = if info.has_variable_info { unit + size_at(all, big, at + 2) } else { at };
+    let (name_size, unit_size) = (size_at(all, big, at), size_at(all, big, at + 2));
+    let unit = name + name_size;
+    let fixed_point = if info.has_variable_info { unit + unit_size } else { at };
     let value = fixed_point + scale;
-    Places { name, unit, fixed_point, value, end: value + width }
+    Places { name, name_size, unit, unit_size, fixed_point, value, end: value + width }
 }
 
 /// Places in a signal that begins at `from`: a size before strings and raw data, no names.
@@ -146,6 +150,38 @@ fn print(all: &[u8], big: bool, (from, to): (usize, usize), argument: &Argument,
     };
     let value = value(all, big, places.value, &argument.value)?;
     Ok(format!("[{from}-{to} {} name={name} unit={unit} fp={fixed_point} {value}]", type_info(&argument.type_info)))
+}
+
+/// `{NAME,UNIT,VALUE}`: why each text of a message's argument ended.
+fn ends(all: &[u8], big: bool, from: usize, argument: &Argument) -> Line {
+    let places = places_in_message(all, big, from, &argument.type_info);
+    let name = label_ended(all, places.name, places.name_size, &argument.name)?;
+    let unit = label_ended(all, places.unit, places.unit_size, &argument.unit)?;
+    let value = match &argument.value {
+        Value::StringVal(words) => ended(all, places.value, places.end - places.value, words)?,
+        _ => '-',
+    };
+    Ok(format!("{{{name},{unit},{value}}}"))
+}
+
+/// Why a label of some size ended, or `-`.
+pub fn label_ended(all: &[u8], at: usize, size: usize, label: &Option<String>) -> Result<char, String> {
+    match label {
+        Some(words) => ended(all, at, size, words),
+        None => Ok('-'),
+    }
+}
+
+/// The same of a signal: a string has all the bytes of its size, zero bytes too, and there are no names.
+fn ends_of_signal(argument: &Argument, places: &Places) -> Line {
+    expect(argument.name.is_none() && argument.unit.is_none(), "a signal's name")?;
+    match &argument.value {
+        Value::StringVal(words) => {
+            expect(words.len() == places.end - places.value, "a signal string's size")?;
+            Ok("{-,-,s}".to_string())
+        }
+        _ => Ok("{-,-,-}".to_string()),
+    }
 }
 
 /// `.TEXT` or `-`.
@@ -220,8 +256,15 @@ fn read_each(all: &[u8], big: bool, at: usize, count: u8) -> Result<Vec<Ranged>,
     Ok(each)
 }
 
-/// `(FROM-TO)` and the arguments that the crate answered for a message.
-pub fn verbose(all: &[u8], big: bool, at: usize, count: u8, answered: &[Argument]) -> Result<(usize, String), String> {
+/// `(FROM-TO)` and the arguments that the crate answered for a message, with `why` each one's ends behind it.
+pub fn verbose(
+    all: &[u8],
+    big: bool,
+    at: usize,
+    count: u8,
+    answered: &[Argument],
+    why: bool,
+) -> Result<(usize, String), String> {
     let each = read_each(all, big, at, count)?;
     expect(each.len() == answered.len(), "the number of arguments")?;
     let end = each.last().map_or(at, |&((_, to), _)| to);
@@ -230,6 +273,9 @@ pub fn verbose(all: &[u8], big: bool, at: usize, count: u8, answered: &[Argument
         let printed = argument(all, big, *range, first)?;
         expect(printed == argument(all, big, *range, again)?, "an argument")?;
         line.push_str(&printed);
+        if why {
+            line.push_str(&ends(all, big, range.0, first)?);
+        }
     }
     Ok((end, line))
 }
@@ -267,16 +313,16 @@ fn signals<'a>(big: bool, infos: &[TypeInfo], data: &'a [u8]) -> Result<Signals<
 
 /// The answer to `args`. A word that doesn't decode counts only when it is reached,
 /// so the crate is asked for all the words before it.
-pub fn answer(big: bool, words: &[u32], data: &[u8]) -> Line {
+pub fn answer(big: bool, words: &[u32], data: &[u8], why: bool) -> Line {
     let infos: Vec<TypeInfo> = words.iter().map_while(|&word| TypeInfo::try_from(word).ok()).collect();
     match signals(big, &infos, data)? {
         Err(error) => refusal(&error),
         Ok(_) if infos.len() < words.len() => Ok("3 2".to_string()),
-        Ok((rest, arguments)) => print_signals(big, data, used(data, rest)?, &arguments),
+        Ok((rest, arguments)) => print_signals(big, data, used(data, rest)?, &arguments, why),
     }
 }
 
-fn print_signals(big: bool, data: &[u8], end: usize, arguments: &[Argument]) -> Line {
+fn print_signals(big: bool, data: &[u8], end: usize, arguments: &[Argument], why: bool) -> Line {
     let mut line = format!("used={end} ");
     let mut from = 0;
     for argument in arguments {
@@ -289,6 +335,9 @@ fn print_signals(big: bool, data: &[u8], end: usize, arguments: &[Argument]) -> 
         let printed = print(data, big, (from, to), argument, &places)?;
         expect(printed == print(data, big, (from, to), &again[0], &places)?, "a signal")?;
         line.push_str(&printed);
+        if why {
+            line.push_str(&ends_of_signal(argument, &places)?);
+        }
         from = to;
     }
     expect(from == end, "the end of the signals")?;

@@ -12,10 +12,13 @@ const SEED: u64 = 1;
 /// Requests of a kind beside the written and the tiny ones, if there is room for them.
 const MOST_OF_A_KIND: u64 = 2_500;
 
+/// The same of a kind of `why`.
+const MOST_OF_A_WHY: u64 = 66;
+
 /// Longer lines are left to `compare`.
 const LONGEST_LISTED: usize = 400;
 
-/// Both files together stay below this.
+/// Both files together stay below this, but for the lines of `why`: they stand behind the others and take no room from them.
 const MOST_BYTES: usize = 1_500_000;
 
 /// A few lines that can't be read.
@@ -29,16 +32,19 @@ pub fn list(design: &Path, folder: &Path, words: &[&str]) -> Result<bool, String
     for word in words {
         chosen.extend(kinds(word)?);
     }
+    let (why, others): (Vec<&Kind>, Vec<&Kind>) = chosen.into_iter().partition(|kind| kind.is_why());
     let written = written_answers(design)?;
     let mut count = MOST_OF_A_KIND;
-    let mut files = files(&chosen, &written, count);
-    while files.0.len() + files.1.len() > MOST_BYTES {
+    let mut files = files(&others, &written, count);
+    while files.requests.len() + files.answers.len() > MOST_BYTES {
         count = count * 9 / 10;
-        files = self::files(&chosen, &written, count);
+        files = self::files(&others, &written, count);
     }
-    write(folder, "stdin", &files.0)?;
-    write(folder, "stdout", &files.1)?;
-    println!("{} requests, {} and {} bytes", files.0.lines().count(), files.0.len(), files.1.len());
+    why.iter().for_each(|kind| kind.make_short(MOST_OF_A_WHY, SEED, &mut |line| files.add(line)));
+    write(folder, "stdin", &files.requests)?;
+    write(folder, "stdout", &files.answers)?;
+    let lines = files.requests.lines().count();
+    println!("{lines} requests, {} and {} bytes", files.requests.len(), files.answers.len());
     Ok(true)
 }
 
@@ -47,24 +53,34 @@ fn write(folder: &Path, name: &str, words: &str) -> Result<(), String> {
     fs::write(&path, words).map_err(|error| format!("can't write {}: {error}", path.display()))
 }
 
-/// The two files: requests and answers.
-fn files(kinds: &[&Kind], written: &[(String, String)], count: u64) -> (String, String) {
-    let mut requests = String::new();
-    let mut answers = String::new();
-    let mut seen = HashSet::new();
-    let mut add = |line: &str| {
-        if line.len() <= LONGEST_LISTED && seen.insert(line.to_string()) {
-            requests.push_str(line);
-            requests.push('\n');
-            answers.push_str(&answer(line.as_bytes()));
-            answers.push('\n');
+/// The two files.
+#[derive(Default)]
+struct Files {
+    requests: String,
+    answers: String,
+    seen: HashSet<String>,
+}
+
+impl Files {
+    /// Adds a request that isn't there yet, and its answer.
+    fn add(&mut self, line: &str) {
+        if line.len() <= LONGEST_LISTED && self.seen.insert(line.to_string()) {
+            self.requests.push_str(line);
+            self.requests.push('\n');
+            self.answers.push_str(&answer(line.as_bytes()));
+            self.answers.push('\n');
         }
-    };
-    UNREADABLE.iter().for_each(|line| add(line));
+    }
+}
+
+/// The files of some kinds.
+fn files(kinds: &[&Kind], written: &[(String, String)], count: u64) -> Files {
+    let mut files = Files::default();
+    UNREADABLE.iter().for_each(|line| files.add(line));
     for kind in kinds {
         let of_kind = |request: &&(String, String)| request.0.split(' ').next() == Some(kind.name);
-        written.iter().filter(of_kind).for_each(|(request, _)| add(request));
-        kind.make_short(count, SEED, &mut add);
+        written.iter().filter(of_kind).for_each(|(request, _)| files.add(request));
+        kind.make_short(count, SEED, &mut |line| files.add(line));
     }
-    (requests, answers)
+    files
 }

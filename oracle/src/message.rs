@@ -3,22 +3,24 @@
 //! The layout of the headers is counted here once more (derived from the header readers
 //! in dlt-core's src/parse.rs, Apache-2.0) because the crate hands back no places.
 
-use crate::arguments::{label, network_trace, verbose};
+use crate::arguments::{label, label_ended, network_trace, verbose};
 use crate::dlt::{Endianness, ExtendedHeader, Message, MessageType, PayloadContent};
 use crate::filter;
 use crate::parse::{dlt_message, forward_to_next_storage_header, ParsedMessage};
-use crate::text::{disagree, expect, guarded, or_dash, refusal, text, used, Line};
+use crate::text::{disagree, ended, expect, guarded, or_dash, refusal, text, used, Line};
 
 pub const STORAGE_HEADER: usize = 16;
 const EXTENDED_HEADER: usize = 10;
+const ID: usize = 4;
 
-pub fn answer(storage: bool, filter: &[u8], bytes: &[u8]) -> Line {
+/// With `why`, an item also says why each of its texts ended.
+pub fn answer(storage: bool, filter: &[u8], bytes: &[u8], why: bool) -> Line {
     let Some(filter) = filter::read(filter) else {
         return Ok("1".to_string());
     };
     match guarded(|| dlt_message(bytes, filter.as_ref(), storage))? {
         Err(error) => refusal(&error),
-        Ok((rest, ParsedMessage::Item(message))) => item(bytes, used(bytes, rest)?, storage, &message),
+        Ok((rest, ParsedMessage::Item(message))) => item(bytes, used(bytes, rest)?, storage, &message, why),
         Ok((rest, ParsedMessage::FilteredOut(length))) => filtered(bytes, used(bytes, rest)?, storage, length),
         Ok((_, ParsedMessage::Invalid)) => Err("oracle: the crate answered Invalid".to_string()),
     }
@@ -60,7 +62,7 @@ fn filtered(bytes: &[u8], used: usize, storage: bool, length: usize) -> Line {
     Ok(format!("0 filtered used={used} plen={length}"))
 }
 
-fn item(bytes: &[u8], used: usize, storage: bool, message: &Message) -> Line {
+fn item(bytes: &[u8], used: usize, storage: bool, message: &Message, why: bool) -> Line {
     let places = places(bytes, storage)?;
     let header = &message.header;
     expect(usize::from(header.overall_length()) == places.declared, "the declared length")?;
@@ -71,15 +73,33 @@ fn item(bytes: &[u8], used: usize, storage: bool, message: &Message) -> Line {
         Some(extended) => extended_header(bytes, &places, extended)?,
         None => "-".to_string(),
     };
-    let payload = payload(bytes, used, &places, message)?;
+    let payload = payload(bytes, used, &places, message, why)?;
+    let ends = if why { ends(bytes, &places, message)? } else { String::new() };
     Ok(format!(
-        "0 item used={used} sh={stored} ver={} end={order} ctr={} plen={} ecu={ecu} ses={} ts={} ext={extended} pay={payload}",
+        "0 item used={used} sh={stored} ver={} end={order} ctr={} plen={} ecu={ecu} ses={} ts={} ext={extended} pay={payload}{ends}",
         header.version,
         header.message_counter,
         header.payload_length,
         or_dash(header.session_id),
         or_dash(header.timestamp),
     ))
+}
+
+/// ` ends=STORED,ECU,APP,CTX`: why each identifier ended.
+fn ends(bytes: &[u8], places: &Places, message: &Message) -> Line {
+    let stored = match &message.storage_header {
+        Some(stored) => ended(bytes, places.skipped + 12, ID, &stored.ecu_id)?,
+        None => '-',
+    };
+    let ecu = label_ended(bytes, places.standard + 4, ID, &message.header.ecu_id)?;
+    let (application, context) = match &message.extended_header {
+        Some(extended) => (
+            ended(bytes, places.extended + 2, ID, &extended.application_id)?,
+            ended(bytes, places.extended + 6, ID, &extended.context_id)?,
+        ),
+        None => ('-', '-'),
+    };
+    Ok(format!(" ends={stored},{ecu},{application},{context}"))
 }
 
 fn storage_header(bytes: &[u8], places: &Places, message: &Message) -> Line {
@@ -110,11 +130,11 @@ pub fn message_type(kind: &MessageType) -> String {
     }
 }
 
-fn payload(bytes: &[u8], used: usize, places: &Places, message: &Message) -> Line {
+fn payload(bytes: &[u8], used: usize, places: &Places, message: &Message, why: bool) -> Line {
     let big = message.header.endianness == Endianness::Big;
     let count = message.extended_header.as_ref().map_or(0, |extended| extended.argument_count);
     let (end, line) = match &message.payload {
-        PayloadContent::Verbose(arguments) => verbose(bytes, big, places.payload, count, arguments)?,
+        PayloadContent::Verbose(arguments) => verbose(bytes, big, places.payload, count, arguments, why)?,
         PayloadContent::NetworkTrace(slices) => network_trace(bytes, big, places.payload, count, slices)?,
         PayloadContent::NonVerbose(id, rest) => {
             let at = places.payload + 4;

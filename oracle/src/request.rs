@@ -19,6 +19,7 @@ pub enum Request {
     List { bytes: Vec<u8> },
     MessageInfo { byte: u8 },
     TypeInfo { word: u32 },
+    Why { of: Box<Request> },
 }
 
 /// The request that a line holds (without its newline), or None.
@@ -28,6 +29,20 @@ pub fn read(line: &[u8]) -> Option<Request> {
     }
     let words: Vec<&[u8]> = line.split(|&b| b == b' ').collect();
     match words[..] {
+        [b"why", ref of @ ..] => why(of),
+        _ => read_words(&words),
+    }
+}
+
+/// A request behind `why`, which asks why each text ended: only those whose answers have texts may stand there.
+fn why(words: &[&[u8]]) -> Option<Request> {
+    let of = read_words(words)?;
+    let has_texts = matches!(of, Request::Message { .. } | Request::ZeroTerminated { .. } | Request::Arguments { .. });
+    has_texts.then(|| Request::Why { of: Box::new(of) })
+}
+
+fn read_words(words: &[&[u8]]) -> Option<Request> {
+    match *words {
         [b"msg", storage, filter, bytes] => {
             Some(Request::Message { storage: bit(storage)?, filter: hex(filter)?, bytes: hex(bytes)? })
         }

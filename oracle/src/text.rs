@@ -45,6 +45,23 @@ pub fn text(all: &[u8], at: usize, value: &[u8]) -> Line {
     Ok(line)
 }
 
+/// Why a text of some size ended, by Rust's own reading of UTF-8: `u` if its content isn't all UTF-8, `z` if the content
+/// is shorter than the size, else `s`. What the crate answered must be the content, or in the first case less of it.
+pub fn ended(all: &[u8], at: usize, size: usize, answered: &str) -> Result<char, String> {
+    let Some(bytes) = all.get(at..at + size) else {
+        return disagree("a text's size");
+    };
+    let content = bytes.split(|&byte| byte == 0).next().unwrap_or_default();
+    let sound = std::str::from_utf8(content).is_ok();
+    expect(content.starts_with(answered.as_bytes()), "a text's content")?;
+    expect(sound == (answered.len() == content.len()), "a text's end")?;
+    Ok(match sound {
+        false => 'u',
+        true if content.len() < size => 'z',
+        true => 's',
+    })
+}
+
 pub fn push_hex(line: &mut String, bytes: &[u8]) {
     const DIGITS: &[u8; 16] = b"0123456789abcdef";
     for b in bytes {

@@ -14,11 +14,11 @@ use Rattle.wire.specs.Parser.{pick, _>>=_, ret, refuse, choose, follow}
 use Rattle.wire.specs.Number.{numberOf, number}
 use Rattle.wire.specs.Lawful.{Waits}
 use Rattle.wire.proofs.Step.{step, asking-done, asking-need, fixed-done, fixed-need}
-use Rattle.strings.specs.Text.{textOf, textNeed, text, identified}
+use Rattle.strings.specs.Text.{endedText, textNeed, text, identified}
 use Rattle.headertype.specs.Bits.{flag}
 use Rattle.headertype.specs.HeaderType.{allHeaders}
 use Rattle.headertype.specs.declared.OptNum.{OptNum}
-use Rattle.headertype.specs.declared.OptRange.{OptRange}
+use Rattle.headertype.specs.declared.OptText.{OptText}
 use Rattle.headertype.specs.declared.StandardHeader.{StandardHeader}
 use Rattle.messageinfo.specs.declared.ExtendedHeader.{ExtendedHeader}
 use Rattle.headers.specs.Standard.{maybeId, maybeNumber, headerOf, flagged, standard}
@@ -49,11 +49,11 @@ asks-number w s at = record {
   short = λ h. need-waits (fixed-need w (numberOf true w) s at h);
 }
 
-asks-id : (s : List ℕ) (at : ℕ) → Asks identified s at 4 (done (textOf 4 s at) (at + 4))
+asks-id : (s : List ℕ) (at : ℕ) → Asks identified s at 4 (done (endedText 4 s at) (at + 4))
 unfolding identified text
 asks-id s at = record {
   there = λ h. asking-done 4 (textNeed 4) _ s at h;
-  short = λ h. need-waits (asking-need 4 (textNeed 4) (λ s at. done (textOf 4 s at) (at + 4)) s at h);
+  short = λ h. need-waits (asking-need 4 (textNeed 4) (λ s at. done (endedText 4 s at) (at + 4)) s at h);
 }
 
 asks-ret : {A : Type 0} (a : A) (s : List ℕ) (at : ℕ) → Asks (ret a) s at 0 (done a at)
@@ -85,10 +85,10 @@ asks-then {a = a} {x = x} p k s at w v f g = record {
     by false e h = waits-then p k s at (f .short (leb-false _ _ e))
 
 -- what is asked for if flagged
-asks-maybe-id : (t : Bool) (s : List ℕ) (at : ℕ) → Asks (maybeId t) s at (pick t 4 0) (done (pick t (OptRange.Present (textOf 4 s at)) OptRange.Absent) (at + pick t 4 0))
+asks-maybe-id : (t : Bool) (s : List ℕ) (at : ℕ) → Asks (maybeId t) s at (pick t 4 0) (done (pick t (OptText.Present (endedText 4 s at)) OptText.Absent) (at + pick t 4 0))
 unfolding maybeId choose
-asks-maybe-id true s at = asks-then identified (λ v. ret (OptRange.Present v)) s at 4 0 (asks-id s at) (asks-ret (OptRange.Present (textOf 4 s at)) s (at + 4))
-asks-maybe-id false s at = rw add-zero (asks-ret OptRange.Absent s at)
+asks-maybe-id true s at = asks-then identified (λ v. ret (OptText.Present v)) s at 4 0 (asks-id s at) (asks-ret (OptText.Present (endedText 4 s at)) s (at + 4))
+asks-maybe-id false s at = rw add-zero (asks-ret OptText.Absent s at)
 
 asks-maybe-number : (t : Bool) (s : List ℕ) (at : ℕ) → Asks (maybeNumber t) s at (pick t 4 0) (done (pick t (OptNum.Present (bigEndian 4 s at)) OptNum.Absent) (at + pick t 4 0))
 unfolding maybeNumber choose
@@ -129,7 +129,7 @@ module _ (s : List ℕ) (at : ℕ) where
       let a6 = a5 + pick (flag 8 t) 4 0 in
       let a7 = a6 + pick (flag 16 t) 4 0 in
       let l = bigEndian 2 s a2 in
-      let h = headerOf t (bigEndian 1 s a1) l (pick (flag 4 t) (OptRange.Present (textOf 4 s a4)) OptRange.Absent)
+      let h = headerOf t (bigEndian 1 s a1) l (pick (flag 4 t) (OptText.Present (endedText 4 s a4)) OptText.Absent)
       (pick (flag 8 t) (OptNum.Present (bigEndian 4 s a5)) OptNum.Absent) (pick (flag 16 t) (OptNum.Present (bigEndian 4 s a6)) OptNum.Absent) in
       let e : a2 ≡ at + 2 = omega arith in
       told-of t l h a7 (one-byte s at) (ap (bigEndian 2 s) e)
@@ -153,7 +153,7 @@ module _ (s : List ℕ) (at : ℕ) where
       let a2 = a1 + 1 in
       let a6 = a2 + 4 in
       let a10 = a6 + 4 in
-      let h = extendedOf (bigEndian 1 s at) (bigEndian 1 s a1) (textOf 4 s a2) (textOf 4 s a6) in
+      let h = extendedOf (bigEndian 1 s at) (bigEndian 1 s a1) (endedText 4 s a2) (endedText 4 s a6) in
       let all : Asks extended s at 10 (done h a10) =
       asks-then (number true 1) _ s at 1 9 (asks-number 1 s at)
       (asks-then (number true 1) _ s a1 1 8 (asks-number 1 s a1)

@@ -1,4 +1,4 @@
--- The bytes determine the headers: what agrees with them is one range, and one header.
+-- The bytes determine the headers: what agrees with them is one range, one text, and one header.
 use Prim.Native.Nat.{ℕ, _+_, _-_, _≤_}
 use native.Mathlib.Omega.{arith}
 use mathlib.Core.Path.{_≡_, refl, sym, ap, ap₂, _∙_}
@@ -6,34 +6,43 @@ use mathlib.Core.Bool.{Bool, true, false}
 use mathlib.Core.List.{List}
 use lib.ListN.{length, take, drop, length-take, length-drop}
 use Rattle.wire.specs.Run.{range}
+use Rattle.wire.specs.declared.Ended.{Ended}
 use Rattle.wire.specs.declared.Range.{Range}
-use Rattle.headertype.specs.declared.OptRange.{OptRange}
+use Rattle.wire.specs.declared.Text.{Text}
+use Rattle.headertype.specs.declared.OptText.{OptText}
 use Rattle.headertype.specs.declared.StandardHeader.{StandardHeader}
 use Rattle.messageinfo.specs.declared.ExtendedHeader.{ExtendedHeader}
-use Rattle.protocol.specs.Fields.{Field, fieldBytes}
-use Rattle.agreement.specs.Agree.{htypOf, IdField, MaybeIdField, StandardAgrees, ExtendedAgrees}
+use Rattle.protocol.specs.Fields.{Field, width, fieldBytes}
+use Rattle.agreement.specs.Identifier.{endIn}
+use Rattle.agreement.specs.Agree.{htypOf, bytesOf, IdField, MaybeIdField, StandardAgrees, ExtendedAgrees}
 use Rattle.agreement.proofs.Text.{one-identifier}
 
 module _ (f : Field) (s : List ℕ) (at : ℕ) where
-  id-length : (r : Range) → IdField f s at r → length (take (r .len) (drop (r .start) s)) ≡ r .len
-  id-length r i = omega (arith, i .inside, length-take (r .len) (drop (r .start) s), length-drop (r .start) s)
+  id-length : (t : Text) → IdField f s at t → length (bytesOf (t .place) s) ≡ t .place .len
+  id-length t i = omega (arith, i .inside, length-take (t .place .len) (drop (t .place .start) s), length-drop (t .place .start) s)
 
-  pub one-range : (r q : Range) → IdField f s at r → IdField f s at q → r ≡ q
-  one-range r q i j =
+  pub one-range : (t u : Text) → IdField f s at t → IdField f s at u → t .place ≡ u .place
+  one-range t u i j =
       let same = one-identifier _ _ _ (i .bytes) (j .bytes) in
-      ap₂ range (i .starts ∙ sym (j .starts)) (sym (id-length r i) ∙ ap length same ∙ id-length q j)
+      ap₂ range (i .starts ∙ sym (j .starts)) (sym (id-length t i) ∙ ap length same ∙ id-length u j)
 
-  one-maybe : (o p : OptRange) → MaybeIdField f s at o → MaybeIdField f s at p → o ≡ p
-  one-maybe (OptRange.Present r) (OptRange.Present q) i j = ap OptRange.Present (one-range r q (i .1) (j .1))
-  one-maybe (OptRange.Present r) OptRange.Absent i j =
+  pub one-text : (t u : Text) → IdField f s at t → IdField f s at u → t ≡ u
+  one-text t u i j =
+      let same = one-identifier _ _ _ (i .bytes) (j .bytes) in
+      let why : t .ended ≡ u .ended = i .why ∙ ap (endIn (width f) (fieldBytes f (htypOf s at) s at)) same ∙ sym (j .why) in
+      ap₂ (λ (p : Range) (w : Ended). record { place = p; ended = w }) (one-range t u i j) why
+
+  one-maybe : (o p : OptText) → MaybeIdField f s at o → MaybeIdField f s at p → o ≡ p
+  one-maybe (OptText.Present r) (OptText.Present q) i j = ap OptText.Present (one-text r q (i .1) (j .1))
+  one-maybe (OptText.Present r) OptText.Absent i j =
       let z : true ≡ false = sym (i .0) ∙ j in
       let y : _≡_ {A = ℕ} 0 1 = cc in
       absurd (omega arith)
-  one-maybe OptRange.Absent (OptRange.Present q) i j =
+  one-maybe OptText.Absent (OptText.Present q) i j =
       let z : true ≡ false = sym (j .0) ∙ i in
       let y : _≡_ {A = ℕ} 0 1 = cc in
       absurd (omega arith)
-  one-maybe OptRange.Absent OptRange.Absent i j = refl
+  one-maybe OptText.Absent OptText.Absent i j = refl
 
 module _ (s : List ℕ) (at : ℕ) where
   pub one-standard : (h g : StandardHeader) (m n : ℕ) → StandardAgrees s at h m → StandardAgrees s at g n → h ≡ g
@@ -62,8 +71,8 @@ module _ (s : List ℕ) (at : ℕ) where
       let verb : x .verbose ≡ y .verbose = a .verb ∙ sym (b .verb) in
       let noar : x .«argument_count» ≡ y .«argument_count» = a .noar ∙ sym (b .noar) in
       let msin : x .«message_type» ≡ y .«message_type» = a .msin ∙ sym (b .msin) in
-      let apid : x .«application_id» ≡ y .«application_id» = one-range Field.APID s at _ _ (a .apid) (b .apid) in
-      let ctid : x .«context_id» ≡ y .«context_id» = one-range Field.CTID s at _ _ (a .ctid) (b .ctid) in
+      let apid : x .«application_id» ≡ y .«application_id» = one-text Field.APID s at _ _ (a .apid) (b .apid) in
+      let ctid : x .«context_id» ≡ y .«context_id» = one-text Field.CTID s at _ _ (a .ctid) (b .ctid) in
       λ i. record {
         verbose = verb i;
         «argument_count» = noar i;

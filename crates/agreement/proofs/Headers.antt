@@ -12,11 +12,11 @@ use Rattle.wire.specs.Answer.Ans.{done, need, hickup, broken}
 use Rattle.wire.specs.Parser.{pick, _>>=_, ret, refuse, choose}
 use Rattle.wire.specs.Number.{digits, numberOf, number}
 use Rattle.wire.specs.declared.Range.{Range}
-use Rattle.strings.specs.Text.{textOf, identified}
+use Rattle.strings.specs.Text.{textOf, endedText, identified}
 use Rattle.headertype.specs.Bits.{flag}
 use Rattle.headertype.specs.HeaderType.{allHeaders}
 use Rattle.headertype.specs.declared.OptNum.{OptNum}
-use Rattle.headertype.specs.declared.OptRange.{OptRange}
+use Rattle.headertype.specs.declared.OptText.{OptText}
 use Rattle.headertype.specs.declared.StandardHeader.{StandardHeader}
 use Rattle.messageinfo.specs.declared.ExtendedHeader.{ExtendedHeader}
 use Rattle.headers.specs.Standard.{maybeId, maybeNumber, endianOf, headerOf, flagged, standard}
@@ -26,7 +26,7 @@ use Rattle.protocol.specs.Msin.{VERB}
 use Rattle.protocol.proofs.Lengths.{headers-length}
 use Rattle.protocol.proofs.Names.{type-read, subtype-read}
 use Rattle.agreement.specs.Agree.{htypOf, numberField, IdField, MaybeIdField, StandardAgrees, ExtendedAgrees}
-use Rattle.agreement.proofs.Text.{text-identifier, text-inside}
+use Rattle.agreement.proofs.Text.{text-identifier, text-ended, text-inside}
 use Rattle.headers.proofs.Inverse as inverse
 use Rattle.headers.proofs.Inverse.{Split, split, of-ret, of-refuse, of-id, of-maybe-id}
 
@@ -51,14 +51,14 @@ of-maybe-number t s at e =
 pub one-byte : (s : List ℕ) (at : ℕ) → bigEndian 1 s at ≡ getD s at 0
 one-byte s at = rw add-zero (omega arith)
 
--- the text of a field's four bytes is its identifier
-id-field : (f : Field) (s : List ℕ) (at : ℕ) → width f ≡ 4 → IdField f s at (textOf 4 s (at + offset (htypOf s at) f))
-unfolding textOf
+-- the text of a field's four bytes is its identifier, and ended as that one ends
+id-field : (f : Field) (s : List ℕ) (at : ℕ) → width f ≡ 4 → IdField f s at (endedText 4 s (at + offset (htypOf s at) f))
+unfolding endedText textOf
 id-field f s at w =
     let place = at + offset (htypOf s at) f in
-    record { starts = refl; inside = text-inside 4 s place; bytes = rw w (text-identifier 4 s place) }
+    record { starts = refl; inside = text-inside 4 s place; bytes = rw w (text-identifier 4 s place); why = rw w (text-ended 4 s place) }
 
-maybe-id-field : (s : List ℕ) (at : ℕ) (t : Bool) → WEID (htypOf s at) ≡ t → MaybeIdField Field.ECU s at (pick t (OptRange.Present (textOf 4 s (at + 4))) OptRange.Absent)
+maybe-id-field : (s : List ℕ) (at : ℕ) (t : Bool) → WEID (htypOf s at) ≡ t → MaybeIdField Field.ECU s at (pick t (OptText.Present (endedText 4 s (at + 4))) OptText.Absent)
 maybe-id-field s at true e = (e, id-field Field.ECU s at refl)
 maybe-id-field s at false e = e
 
@@ -74,8 +74,8 @@ module _ (s : List ℕ) (at : ℕ) (byte : htypOf s at < 256) where
   abbrev b3 : ℕ
   b3 = b2 + pick (flag 16 (htypOf s at)) 4 0
 
-  made : (type counter length : ℕ) (ecu : OptRange) (session time : OptNum) (next : ℕ) → type ≡ htypOf s at → counter ≡ bigEndian 1 s (at + 1) → length ≡ bigEndian 2 s (at + 2)
-      → ecu ≡ pick (flag 4 (htypOf s at)) (OptRange.Present (textOf 4 s (at + 4))) OptRange.Absent
+  made : (type counter length : ℕ) (ecu : OptText) (session time : OptNum) (next : ℕ) → type ≡ htypOf s at → counter ≡ bigEndian 1 s (at + 1) → length ≡ bigEndian 2 s (at + 2)
+      → ecu ≡ pick (flag 4 (htypOf s at)) (OptText.Present (endedText 4 s (at + 4))) OptText.Absent
       → session ≡ pick (flag 8 (htypOf s at)) (OptNum.Present (bigEndian 4 s (at + 4 + b1))) OptNum.Absent
       → time ≡ pick (flag 16 (htypOf s at)) (OptNum.Present (bigEndian 4 s (at + 4 + b2))) OptNum.Absent
       → next ≡ at + 4 + b3
@@ -110,16 +110,16 @@ module _ (s : List ℕ) (at : ℕ) (byte : htypOf s at < 256) where
       let m1 : r1 .mid ≡ at + 4 + b1 = i1 .1 ∙ ap₂ (λ (k y : ℕ). k + pick (flag 4 y) 4 0) m t in
       let m2 : r2 .mid ≡ at + 4 + b2 = i2 .1 ∙ ap₂ (λ (k y : ℕ). k + pick (flag 8 y) 4 0) m1 t ∙ omega arith in
       let m3 : r3 .mid ≡ at + 4 + b3 = i3 .1 ∙ ap₂ (λ (k y : ℕ). k + pick (flag 16 y) 4 0) m2 t ∙ omega arith in
-      let f1 : r1 .value ≡ pick (flag 4 (htypOf s at)) (OptRange.Present (textOf 4 s (at + 4))) OptRange.Absent
-      = i1 .0 ∙ ap₂ (λ (k y : ℕ). pick (flag 4 y) (OptRange.Present (textOf 4 s k)) OptRange.Absent) m t in
+      let f1 : r1 .value ≡ pick (flag 4 (htypOf s at)) (OptText.Present (endedText 4 s (at + 4))) OptText.Absent
+      = i1 .0 ∙ ap₂ (λ (k y : ℕ). pick (flag 4 y) (OptText.Present (endedText 4 s k)) OptText.Absent) m t in
       let f2 : r2 .value ≡ pick (flag 8 (htypOf s at)) (OptNum.Present (bigEndian 4 s (at + 4 + b1))) OptNum.Absent
       = i2 .0 ∙ ap₂ (λ (k y : ℕ). pick (flag 8 y) (OptNum.Present (bigEndian 4 s k)) OptNum.Absent) m1 t in
       let f3 : r3 .value ≡ pick (flag 16 (htypOf s at)) (OptNum.Present (bigEndian 4 s (at + 4 + b2))) OptNum.Absent
       = i3 .0 ∙ ap₂ (λ (k y : ℕ). pick (flag 16 y) (OptNum.Present (bigEndian 4 s k)) OptNum.Absent) m2 t in
       by (r1 .value) (r2 .value) (r3 .value) (r3 .mid) f1 f2 f3 m3 (leb (allHeaders type) length) (r3 .second)
     where
-      by : (ecu : OptRange) (session time : OptNum) (k : ℕ)
-          → ecu ≡ pick (flag 4 (htypOf s at)) (OptRange.Present (textOf 4 s (at + 4))) OptRange.Absent
+      by : (ecu : OptText) (session time : OptNum) (k : ℕ)
+          → ecu ≡ pick (flag 4 (htypOf s at)) (OptText.Present (endedText 4 s (at + 4))) OptText.Absent
           → session ≡ pick (flag 8 (htypOf s at)) (OptNum.Present (bigEndian 4 s (at + 4 + b1))) OptNum.Absent
           → time ≡ pick (flag 16 (htypOf s at)) (OptNum.Present (bigEndian 4 s (at + 4 + b2))) OptNum.Absent
           → k ≡ at + 4 + b3 → (b : Bool)
@@ -169,7 +169,7 @@ module _ (s : List ℕ) (at : ℕ) (byte : htypOf s at < 256) where
         mstp = λ b. rw (i1 .0) (type-read _ b);
         mtin = λ b. rw (i1 .0) (subtype-read _ b);
         noar = i2 .0 ∙ ap (bigEndian 1 s) m1;
-        apid = subst (IdField Field.APID s at) (sym (i3 .0 ∙ ap (textOf 4 s) m2)) (id-field Field.APID s at refl);
-        ctid = subst (IdField Field.CTID s at) (sym (i4 .0 ∙ ap (textOf 4 s) m3)) (id-field Field.CTID s at refl);
+        apid = subst (IdField Field.APID s at) (sym (i3 .0 ∙ ap (endedText 4 s) m2)) (id-field Field.APID s at refl);
+        ctid = subst (IdField Field.CTID s at) (sym (i4 .0 ∙ ap (endedText 4 s) m3)) (id-field Field.CTID s at refl);
         ends = o .1 ∙ m4;
       })

@@ -1,4 +1,4 @@
--- The text that is read of a field's bytes is their identifier; bytes have one, and no more.
+-- The text that is read of a field's bytes is their identifier, and ended as that one ends; bytes have one, and no more.
 -- Assumes nothing.
 use Prim.Native.Nat.{ℕ, zero, suc, _+_, _-_, _≤_, _<_, min}
 use native.Mathlib.Omega.{arith}
@@ -12,9 +12,9 @@ use lib.Dec.{eqb, leb}
 use borrow.Author.Tests.{eq-eqb, leb-true, leb-false}
 use Rattle.wire.specs.Parser.{pick}
 use Rattle.strings.specs.Utf8.{validUpTo, ValidUtf8}
-use Rattle.strings.specs.Text.{before0, textOf}
+use Rattle.strings.specs.Text.{before0, textOf, endedOf}
 use Rattle.strings.proofs.Longest.{prefix-within, prefix-valid, prefix-longest}
-use Rattle.agreement.specs.Identifier.{beforeZero, IdentifierOf}
+use Rattle.agreement.specs.Identifier.{beforeZero, IdentifierOf, endIn}
 use Rattle.agreement.proofs.Moved.{Same, valid-moved}
 
 -- ---- the part before the first zero byte
@@ -104,6 +104,11 @@ module _ (n : ℕ) (s : List ℕ) (at : ℕ) where
             let l : k ≤ validUpTo size s at = prefix-longest size s b (valid-moved (beforeZero field) s at (part-same k b) v) in
             omega (arith, kept-is, id-length);
       }
+
+  -- it ended as the identifier ends
+  pub text-ended : endedOf n s at ≡ endIn n field (take kept (drop at s))
+  unfolding endedOf
+  text-ended = rw (id-length, before-length n s at)
 
   -- and it stands in the bytes
   pub text-inside : kept ≤ length s - at

@@ -6,16 +6,17 @@ use mathlib.Core.List.{List}
 use lib.ListN.{length, getD, take, drop}
 use Rattle.wire.specs.Parser.{pick}
 use Rattle.wire.specs.declared.Range.{Range}
+use Rattle.wire.specs.declared.Text.{Text}
 use Rattle.headertype.specs.declared.Endianness.{Endianness}
 use Rattle.headertype.specs.declared.OptNum.{OptNum}
-use Rattle.headertype.specs.declared.OptRange.{OptRange}
+use Rattle.headertype.specs.declared.OptText.{OptText}
 use Rattle.headertype.specs.declared.StandardHeader.{StandardHeader}
 use Rattle.messageinfo.specs.MessageInfo.{messageTypeOf}
 use Rattle.messageinfo.specs.Kept.{typeNumber, subtypeNumber}
 use Rattle.messageinfo.specs.declared.ExtendedHeader.{ExtendedHeader}
-use Rattle.protocol.specs.Fields.{UEH, MSBF, VERS, Field, present, offset, headers, payload, fieldBytes, fieldNumber}
+use Rattle.protocol.specs.Fields.{UEH, MSBF, VERS, Field, width, present, offset, headers, payload, fieldBytes, fieldNumber}
 use Rattle.protocol.specs.Msin.{VERB, MSTP, MTIN}
-use Rattle.agreement.specs.Identifier.{IdentifierOf}
+use Rattle.agreement.specs.Identifier.{IdentifierOf, endIn}
 
 -- HTYP itself, at its position, and MSIN and LEN of the same message
 abbrev pub htypOf : List ℕ → ℕ → ℕ
@@ -31,16 +32,22 @@ lenOf s at = fieldNumber Field.LEN (htypOf s at) s at
 abbrev pub numberField : Field → List ℕ → ℕ → OptNum
 numberField f s at = pick (present (htypOf s at) f) (OptNum.Present (fieldNumber f (htypOf s at) s at)) OptNum.Absent
 
--- a range r of the bytes s is a field's identifier: it starts where the field starts, that many bytes stand there, and they are the identifier of the field's bytes
-pub record IdField (f : Field) (s : List ℕ) (at : ℕ) (r : Range) : Type 0 where
-  pub starts : r .start ≡ at + offset (htypOf s at) f
-  pub inside : r .len ≤ length s - r .start
-  pub bytes : IdentifierOf (fieldBytes f (htypOf s at) s at) (take (r .len) (drop (r .start) s))
+-- a part r of the bytes s, as bytes
+abbrev pub bytesOf : Range → List ℕ → List ℕ
+bytesOf r s = take (r .len) (drop (r .start) s)
+
+-- a text t of the bytes s is a field's identifier: it starts where the field starts, that many bytes stand there, they are the identifier of the field's bytes,
+-- and it ended as this one ends
+pub record IdField (f : Field) (s : List ℕ) (at : ℕ) (t : Text) : Type 0 where
+  pub starts : t .place .start ≡ at + offset (htypOf s at) f
+  pub inside : t .place .len ≤ length s - t .place .start
+  pub bytes : IdentifierOf (fieldBytes f (htypOf s at) s at) (bytesOf (t .place) s)
+  pub why : t .ended ≡ endIn (width f) (fieldBytes f (htypOf s at) s at) (bytesOf (t .place) s)
 
 -- it is there just where HTYP says so
-abbrev pub MaybeIdField : Field → List ℕ → ℕ → OptRange → Type 0
-MaybeIdField f s at (OptRange.Present r) = (present (htypOf s at) f ≡ true) × IdField f s at r
-MaybeIdField f s at OptRange.Absent = present (htypOf s at) f ≡ false
+abbrev pub MaybeIdField : Field → List ℕ → ℕ → OptText → Type 0
+MaybeIdField f s at (OptText.Present t) = (present (htypOf s at) f ≡ true) × IdField f s at t
+MaybeIdField f s at OptText.Absent = present (htypOf s at) f ≡ false
 
 -- the standard header h whose HTYP stands at a position, and that it ends where the extended header or the payload begins
 pub record StandardAgrees (s : List ℕ) (at : ℕ) (h : StandardHeader) (next : ℕ) : Type 0 where

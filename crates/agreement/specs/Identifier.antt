@@ -4,8 +4,9 @@ use mathlib.Core.Path.{_≡_}
 use mathlib.Core.Bool.{Bool, true, false}
 use mathlib.Core.List.{List, [], _∷_, _++_}
 use lib.ListN.{length, take, drop, replicate}
-use lib.Dec.{eqb}
+use lib.Dec.{eqb, ltb}
 use Rattle.wire.specs.Parser.{pick}
+use Rattle.wire.specs.declared.Ended.{Ended}
 use Rattle.strings.specs.Utf8.{ValidUtf8}
 
 -- the part of some bytes before their first zero byte; all of them where none is zero
@@ -18,6 +19,11 @@ pub record IdentifierOf (field id : List ℕ) : Type 0 where
   pub front : id ≡ take (length id) (beforeZero field)
   pub valid : ValidUtf8 id 0 (length id)
   pub longest : (k : ℕ) → k ≤ length (beforeZero field) → ValidUtf8 (beforeZero field) 0 k → k ≤ length id
+
+-- why it ended, in a field of n bytes: at bytes that are no UTF-8, where it is shorter than the part before the first zero byte; else at a zero byte, where
+-- that part is shorter than the field; else at the field's size. The protocol doesn't speak of it
+abbrev pub endIn : ℕ → List ℕ → List ℕ → Ended
+endIn n field id = pick (ltb (length id) (length (beforeZero field))) Ended.Invalid (pick (ltb (length (beforeZero field)) n) Ended.Zero Ended.Size)
 
 -- four bytes: an identifier, and zero bytes behind it
 abbrev pub padded : List ℕ → List ℕ

@@ -8,7 +8,7 @@ use Rattle.wire.specs.Answer.{Ans, Parser}
 use Rattle.wire.specs.Answer.Ans.{done, need, hickup, broken}
 use Rattle.wire.specs.Parser.{_>>=_, here}
 use Rattle.wire.proofs.Step.{then-done, then-need, then-hickup, then-broken, here-is, ret-is}
-use Rattle.headertype.specs.declared.OptRange.{OptRange}
+use Rattle.headertype.specs.declared.OptText.{OptText}
 use Rattle.dlt.specs.declared.TypeInfoKind.{TypeInfoKind}
 use Rattle.dlt.specs.declared.TypeInfo.{TypeInfo}
 use Rattle.dlt.specs.declared.OptPoint.{OptPoint}
@@ -17,17 +17,17 @@ use Rattle.dlt.specs.declared.Argument.{Argument}
 use Rattle.arguments.specs.Argument.{typeInfo, made, plain, scaled, boolean, sized, kinded, argument}
 
 -- a value of this answer has Q
-abbrev Holds : {A : Type 0} → (A → ℕ → Type 0) → Ans A → Type 0
+abbrev pub Holds : {A : Type 0} → (A → ℕ → Type 0) → Ans A → Type 0
 Holds Q (done a b) = Q a b
 Holds Q (need n) = Unit
 Holds Q (hickup r) = Unit
 Holds Q broken = Unit
 
 -- every value of a rule has Q
-record Gives {A : Type 0} (Q : A → ℕ → Type 0) (p : Parser A) : Type 0 where
-  holds : (s : List ℕ) (at : ℕ) → Holds Q (p s at)
+pub record Gives {A : Type 0} (Q : A → ℕ → Type 0) (p : Parser A) : Type 0 where
+  pub holds : (s : List ℕ) (at : ℕ) → Holds Q (p s at)
 
-then-gives : {A B : Type 0} (Q : B → ℕ → Type 0) (p : Parser A) (k : A → Parser B) → ((a : A) → Gives Q (k a)) → Gives Q (p >>= k)
+pub then-gives : {A B : Type 0} (Q : B → ℕ → Type 0) (p : Parser A) (k : A → Parser B) → ((a : A) → Gives Q (k a)) → Gives Q (p >>= k)
 then-gives {A} Q p k h = record { holds = λ s at. go s at (p s at) refl }
   where
     go : (s : List ℕ) (at : ℕ) (x : Ans A) → p s at ≡ x → Holds Q ((p >>= k) s at)
@@ -40,7 +40,7 @@ abbrev Stands : ℕ → Argument → ℕ → Type 0
 Stands start a b = (a .start ≡ start) × (a .end ≡ b)
 
 module _ (start : ℕ) (info : TypeInfo) where
-  made-gives : (name unit : OptRange) (point : OptPoint) (value : Value) → Gives (Stands start) (made start info name unit point value)
+  made-gives : (name unit : OptText) (point : OptPoint) (value : Value) → Gives (Stands start) (made start info name unit point value)
   made-gives name unit point value =
       record { holds = λ s at. rw (then-done here _ s at (here-is s at), ret-is _ s at) (refl, refl) }
 

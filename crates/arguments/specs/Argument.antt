@@ -7,7 +7,7 @@ use Rattle.wire.specs.Parser.{ret, here, choose, _>>=_}
 use Rattle.wire.specs.Number.{number}
 use Rattle.wire.specs.Run.{bytes}
 use Rattle.strings.specs.Text.{text}
-use Rattle.headertype.specs.declared.OptRange.{OptRange}
+use Rattle.headertype.specs.declared.OptText.{OptText}
 use Rattle.dlt.specs.TypeInfoWord.{wideLength, typeInfoOf, decodedAns}
 use Rattle.dlt.specs.declared.FloatWidth.{FloatWidth}
 use Rattle.dlt.specs.declared.TypeInfoKind.{TypeInfoKind}
@@ -33,7 +33,7 @@ typeInfo big = do
   decoded (typeInfoOf word)
 
 -- the record, whose end is the position behind the value
-abbrev pub made : ℕ → TypeInfo → OptRange → OptRange → OptPoint → Value → Parser Argument
+abbrev pub made : ℕ → TypeInfo → OptText → OptText → OptPoint → Value → Parser Argument
 made start info name unit point value = do
   end ← here
   ret (record { «type_info» = info; name = name; unit = unit; «fixed_point» = point; value = value; start = start; end = end })
@@ -58,7 +58,7 @@ unfoldable pub boolean : Bool → ℕ → TypeInfo → Parser Argument
 boolean big start info = do
   name ← maybeName (info .«has_variable_info») big
   byte ← number true 1
-  made start info name OptRange.Absent OptPoint.Absent (Value.Bool byte)
+  made start info name OptText.Absent OptPoint.Absent (Value.Bool byte)
 
 -- a value of n bytes: raw, or a string
 unfoldable pub content : Bool → ℕ → Parser Value
@@ -70,7 +70,7 @@ sized raw big start info = do
   size ← number big 2
   name ← maybeName (info .«has_variable_info») big
   v ← content raw size
-  made start info name OptRange.Absent OptPoint.Absent v
+  made start info name OptText.Absent OptPoint.Absent v
 
 -- what follows the type info, by its kind
 unfoldable pub kinded : Bool → ℕ → TypeInfo → TypeInfoKind → Parser Argument

@@ -7,7 +7,7 @@ use dlt::Argument;
 use dlt::Decoded;
 use dlt::FloatWidth;
 use dlt::OptPoint;
-use dlt::OptRange;
+use dlt::OptText;
 use dlt::TypeInfo;
 use dlt::TypeInfoKind;
 use dlt::Value;
@@ -18,6 +18,7 @@ use values::Numeric;
 use values::PointAns;
 use values::ValueAns;
 use wire::RangeAns;
+use wire::TextAns;
 use wire::U8Ans;
 use wire::U16Ans;
 use wire::U32Ans;
@@ -78,7 +79,7 @@ fn bool_argument(s: &[u8], at: usize, start: usize, info: TypeInfo, big: bool) -
         v: Argument {
             type_info: info,
             name: named,
-            unit: OptRange::Absent,
+            unit: OptText::Absent,
             fixed_point: OptPoint::Absent,
             value: Value::Bool(byte.v),
             start,
@@ -184,12 +185,12 @@ fn sized_value(s: &[u8], at: usize, n: usize, raw: bool) -> ValueAns
         })
     } else {
         let text = match strings::dlt_zero_terminated_string_intern(s, at, n) {
-            RangeAns::Done(text) => text,
-            RangeAns::Need(no_text) => return ValueAns::Need(no_text),
+            TextAns::Done(text) => text,
+            TextAns::Need(no_text) => return ValueAns::Need(no_text),
         };
-        let range = text.v;
+        let told = text.v;
         ValueAns::Done(GotValue {
-            v: Value::StringVal(range),
+            v: Value::StringVal(told),
             next: text.next,
         })
     }
@@ -224,7 +225,7 @@ fn sized_argument(
         v: Argument {
             type_info: info,
             name: named,
-            unit: OptRange::Absent,
+            unit: OptText::Absent,
             fixed_point: OptPoint::Absent,
             value,
             start,

@@ -5,8 +5,8 @@ ghost use Rattle.cursor.specs.Cursor.{arguments, passAns, turn, turnAns}
 ghost use Rattle.cursor.specs.Raw.{rawOf, rawTurn, rawTurnAns};
 use arguments::ArgumentAns;
 use dlt::Argument;
-use dlt::OptRange;
 use dlt::Value;
+use headertype::OptRange;
 use skim::SkimAns;
 use wire::Range;
 

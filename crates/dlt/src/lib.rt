@@ -2,7 +2,7 @@
 // headers' types stand in the crates headertype and messageinfo and are handed on, so that a user of this crate has them all.
 // Copyright 2021 by Accenture ESR. Ported under the Apache License 2.0: see NOTICE.
 //
-// A String or a Vec is a range of the caller's bytes. An Option is an enum for each type. A bit is read by `/` and `%`.
+// A String or a Vec is a range of the caller's bytes; a String says why it ended. An Option is an enum for each type. A bit is read by `/` and `%`.
 ghost use mathlib.Core.Path.{_≡_};
 ghost use Prim.Native.Nat.{_%_};
 ghost use Rattle.dlt.specs.TypeInfoWord.{typeLengthOf, floatWidthOf, wideLength, lengthBytes, floatBytes, signedOf, unsignedOf, floatOf, kindOf, codingOf, typeInfoOf};
@@ -10,7 +10,7 @@ pub use headertype::BIG_ENDIAN_FLAG;
 pub use headertype::DltTimeStamp;
 pub use headertype::Endianness;
 pub use headertype::OptNum;
-pub use headertype::OptRange;
+pub use headertype::OptText;
 pub use headertype::STORAGE_HEADER_LENGTH;
 pub use headertype::StandardHeader;
 pub use headertype::StorageHeader;
@@ -29,6 +29,7 @@ pub use messageinfo::OptLevel;
 pub use messageinfo::VERBOSE_FLAG;
 pub use messageinfo::u8_to_log_level;
 use wire::Range;
+use wire::Text;
 
 // ---- values, and the parts of type info
 
@@ -54,7 +55,7 @@ pub enum Value {
     F64(f64),
     F32NotANumber(u32),
     F64NotANumber(u64),
-    StringVal(Range),
+    StringVal(Text),
     Raw(Range),
 }
 
@@ -281,8 +282,8 @@ pub enum OptPoint {
 // An argument, and where it stands in the bytes.
 pub struct Argument {
     pub type_info: TypeInfo,
-    pub name: OptRange,
-    pub unit: OptRange,
+    pub name: OptText,
+    pub unit: OptText,
     pub fixed_point: OptPoint,
     pub value: Value,
     pub start: usize,

@@ -13,6 +13,10 @@
 #include <stddef.h>
 #include <stdint.h>
 
+/* The number of this interface: it goes up when a size, a place or a call here changes. 2: texts say why they ended; before it a message had 33 numbers and
+   an argument 23. An archive tells its sizes itself: dlt_message and dlt_argument, asked with out_len 0, answer DLT_SHORT_OUT with them. */
+#define DLT_INTERFACE 2
+
 /* An answer's number. With DLT_INCOMPLETE `value` is the need (0: unknown): of dlt_message fewer bytes never help, and exactly so many decide it if the
    headers are there and the message isn't verbose or the filter drops it (crates/worth). With DLT_HICKUP it is the reason, with DLT_SHORT_OUT how many numbers
    `out` must have room for: that is told first, whatever the other arguments are. `used` is how many bytes were used, where the number is
@@ -42,9 +46,16 @@ typedef struct {
     uint64_t used;
 } dlt_answer;
 
+/* Why a text ended. Its content is the bytes before the first zero byte, or all of its size; the text is the longest part of it, from its start on, that is
+   UTF-8. A signal string ends at its size, zero bytes and all. Raw values and the bytes behind an id are no texts. */
+#define DLT_ENDED_NONE 0                /* there is no text */
+#define DLT_ENDED_ZERO 1                /* a zero byte ended it */
+#define DLT_ENDED_SIZE 2                /* its size */
+#define DLT_ENDED_INVALID 3             /* bytes that are no UTF-8 came first: the text is shorter than its content */
+
 /* What dlt_message writes. A flag is 0 or 1; what is absent has 0 for its flag and for its values. A text is its start in the bytes given, and its
-   length. Of a message that was filtered out only the first two are written. */
-#define DLT_MESSAGE_SIZE 33
+   length; why it ended is one of DLT_ENDED_*, behind all else. Of a message that was filtered out only the first two are written. */
+#define DLT_MESSAGE_SIZE 37
 #define DLT_MESSAGE_FILTERED 0          /* 0 item, 1 filtered out */
 #define DLT_MESSAGE_PAYLOAD_LENGTH 1    /* as declared */
 #define DLT_MESSAGE_STORED 2            /* flag: storage header */
@@ -71,9 +82,13 @@ typedef struct {
 #define DLT_MESSAGE_START 30            /* of the bytes behind the id; of a list or a network trace: where its first argument stands */
 #define DLT_MESSAGE_LENGTH 31           /* of the bytes behind the id; of a list or a network trace: how many arguments are left */
 #define DLT_MESSAGE_LIST_BIG 32         /* flag: a list's byte order */
+#define DLT_MESSAGE_STORED_ECU_ENDED 33 /* why each identifier ended */
+#define DLT_MESSAGE_ECU_ENDED 34
+#define DLT_MESSAGE_APPLICATION_ENDED 35
+#define DLT_MESSAGE_CONTEXT_ENDED 36
 
 /* What dlt_argument and dlt_signal write where there is an argument (value 1): the cursor to ask next with, and the argument. */
-#define DLT_ARGUMENT_SIZE 23
+#define DLT_ARGUMENT_SIZE 26
 #define DLT_ARGUMENT_NEXT 0             /* where the next stands */
 #define DLT_ARGUMENT_LEFT 1             /* how many are left; of signals: the next word's number */
 #define DLT_ARGUMENT_BIG 2              /* flag */
@@ -91,8 +106,11 @@ typedef struct {
 #define DLT_ARGUMENT_OFFSET_BITS 18     /* 32 or 64 */
 #define DLT_ARGUMENT_OFFSET 19          /* two's complement of 64 bits */
 #define DLT_ARGUMENT_VALUE 20           /* 0 bool, 1 to 4 u8 to u64, 5 u128, 6 to 9 i8 to i64, 10 i128, 11 f32, 12 f64, 13 string, 14 raw */
-#define DLT_ARGUMENT_FIRST 21           /* the number; two's complement of 64 bits; a float's pattern; 128 bits: the high half; a text's start */
-#define DLT_ARGUMENT_SECOND 22          /* 128 bits: the low half; a text's length; else 0 */
+#define DLT_ARGUMENT_FIRST 21           /* the number; two's complement of 64 bits; a float's pattern; 128 bits: the high half; a string's or raw data's start */
+#define DLT_ARGUMENT_SECOND 22          /* 128 bits: the low half; a string's or raw data's length; else 0 */
+#define DLT_ARGUMENT_NAME_ENDED 23      /* why the name ended */
+#define DLT_ARGUMENT_UNIT_ENDED 24
+#define DLT_ARGUMENT_VALUE_ENDED 25     /* of a string; of every other value 0 */
 
 /* What dlt_raw_value writes where there is a raw value (value 1): the cursor to ask next with, and where the value stands. */
 #define DLT_RAW_SIZE 5

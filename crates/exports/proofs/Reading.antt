@@ -62,18 +62,18 @@ abbrev pub left : Answer → List ℕ → Outcome
 left a X = record { answer = a; out = X }
 
 -- ---- dlt_message: r is what the message rule answered
-pub message-short : (f : List ℕ) (stored : Bool) (s T : List ℕ) (a : Answer) → length T < 33 → a ≡ numbers 15 33 0 → messageCall f stored s T ≡ left a T
+pub message-short : (f : List ℕ) (stored : Bool) (s T : List ℕ) (a : Answer) → length T < 37 → a ≡ numbers 15 37 0 → messageCall f stored s T ≡ left a T
 unfolding messageCall
-message-short f stored s T a h e = rw (lt-leb 33 (length T) h, e)
+message-short f stored s T a h e = rw (lt-leb 37 (length T) h, e)
 
-module _ (f : List ℕ) (stored : Bool) (s T X : List ℕ) (v : FilterAns) (a : Answer) (d : v ≡ filterOf f) (fits : 33 ≤ length T) where
+module _ (f : List ℕ) (stored : Bool) (s T X : List ℕ) (v : FilterAns) (a : Answer) (d : v ≡ filterOf f) (fits : 37 ≤ length T) where
   pub message-bad : v ≡ FilterAns.Bad → a ≡ numbers 1 0 0 → messageCall f stored s T ≡ left a T
   unfolding messageCall messageOf judged messageShown
-  message-bad q e = rw (le-leb 33 (length T) fits, sym d ∙ q, e)
+  message-bad q e = rw (le-leb 37 (length T) fits, sym d ∙ q, e)
 
   pub message-good : (filter : Filter) → v ≡ FilterAns.Good filter → messageShown T (parse.Answer.answered (message f filter stored s 0)) ≡ left a X → messageCall f stored s T ≡ left a X
   unfolding messageCall messageOf judged
-  message-good filter q e = rw (le-leb 33 (length T) fits, sym d ∙ q) e
+  message-good filter q e = rw (le-leb 37 (length T) fits, sym d ∙ q) e
 
 -- a message that the filter drops
 module _ (T X : List ℕ) (a : Answer) (n : ℕ) (s : List ℕ) (at : ℕ) (r : RangeAns) (d : rangeAns r ≡ bytes n s at) where
@@ -138,13 +138,13 @@ module _ (T X : List ℕ) (a : Answer) (f : List ℕ) (filter : Filter) (stored 
 
 -- ---- dlt_argument, dlt_raw_value and dlt_signal
 module _ (c : Cursor) (s T : List ℕ) (a : Answer) where
-  pub argument-short : length T < 23 → a ≡ numbers 15 23 0 → argumentCall c s T ≡ left a T
+  pub argument-short : length T < 26 → a ≡ numbers 15 26 0 → argumentCall c s T ≡ left a T
   unfolding argumentCall
-  argument-short h e = rw (lt-leb 23 (length T) h, e)
+  argument-short h e = rw (lt-leb 26 (length T) h, e)
 
-  pub argument-told : (X : List ℕ) (r r′ : TurnAns) → 23 ≤ length T → turnAns r ≡ turn c s (c .at) → r ≡ r′ → turnShown T (turnAns r′) ≡ left a X → argumentCall c s T ≡ left a X
+  pub argument-told : (X : List ℕ) (r r′ : TurnAns) → 26 ≤ length T → turnAns r ≡ turn c s (c .at) → r ≡ r′ → turnShown T (turnAns r′) ≡ left a X → argumentCall c s T ≡ left a X
   unfolding argumentCall
-  argument-told X r r′ h d q e = rw (le-leb 23 (length T) h, sym d, q) e
+  argument-told X r r′ h d q e = rw (le-leb 26 (length T) h, sym d, q) e
 
 module _ (T : List ℕ) (a : Answer) where
   pub turn-at : (X : List ℕ) (t t′ : Turn) (b : ℕ) → t ≡ t′ → turnShown T (done t′ b) ≡ left a X → turnShown T (done t b) ≡ left a X
@@ -196,14 +196,14 @@ module _ (T : List ℕ) (a : Answer) where
   raw-hickup n e = rw e
 
 module _ (words : List ℕ) (c : SignalCursor) (s T : List ℕ) (a : Answer) where
-  pub signal-short : length T < 23 → a ≡ numbers 15 23 0 → signalCall words c s T ≡ left a T
+  pub signal-short : length T < 26 → a ≡ numbers 15 26 0 → signalCall words c s T ≡ left a T
   unfolding signalCall
-  signal-short h e = rw (lt-leb 23 (length T) h, e)
+  signal-short h e = rw (lt-leb 26 (length T) h, e)
 
-  pub signal-told : (X : List ℕ) (r r′ : SignalTurnAns) → 23 ≤ length T → signalTurnAns r ≡ signalTurn words c s (c .at) → r ≡ r′ → signalShown T (signalTurnAns r′) ≡ left a X
+  pub signal-told : (X : List ℕ) (r r′ : SignalTurnAns) → 26 ≤ length T → signalTurnAns r ≡ signalTurn words c s (c .at) → r ≡ r′ → signalShown T (signalTurnAns r′) ≡ left a X
       → signalCall words c s T ≡ left a X
   unfolding signalCall
-  signal-told X r r′ h d q e = rw (le-leb 23 (length T) h, sym d, q) e
+  signal-told X r r′ h d q e = rw (le-leb 26 (length T) h, sym d, q) e
 
 module _ (T : List ℕ) (a : Answer) where
   pub signal-at : (X : List ℕ) (t t′ : SignalTurn) (b : ℕ) → t ≡ t′ → signalShown T (done t′ b) ≡ left a X → signalShown T (done t b) ≡ left a X

@@ -7,11 +7,11 @@ use lib.ListN.{length}
 use Rattle.wire.specs.Answer.Ans.{done}
 use Rattle.wire.specs.Parser.{ret, here, choose}
 use Rattle.wire.specs.Lawful.{Lawful, Stable, Honest}
-use Rattle.wire.specs.declared.Range.{Range}
+use Rattle.wire.specs.declared.Text.{Text}
 use Rattle.wire.proofs.Laws.{then-law, choose-law, here-law, stable, honest}
 use Rattle.wire.proofs.Rules.{laws}
 use Rattle.headertype.specs.HeaderType.{overallLength}
-use Rattle.headertype.specs.declared.OptRange.{OptRange}
+use Rattle.headertype.specs.declared.OptText.{OptText}
 use Rattle.headertype.specs.declared.StandardHeader.{StandardHeader}
 use Rattle.headers.specs.Standard.{standard}
 use Rattle.headers.specs.Extended.{extended}
@@ -42,12 +42,12 @@ maybe-ids true e n s at h q =
 maybe-ids false e n s at h q = rw (of-ret s at OptExtended.Absent q .0) tt
 
 module _ (f : List ℕ) (filter : Filter) (stored : OptStored) where
-  headers-same : (h : StandardHeader) (e : OptExtended) (s t : List ℕ) → IdsIn s e → ((r : Range) → h .«ecu_id» ≡ OptRange.Present r → r .start + r .len ≤ length s)
+  headers-same : (h : StandardHeader) (e : OptExtended) (s t : List ℕ) → IdsIn s e → ((r : Text) → h .«ecu_id» ≡ OptText.Present r → r .place .start + r .place .len ≤ length s)
       → headersOf f filter stored h e (s ++ t) ≡ headersOf f filter stored h e s
   unfolding headersOf
   headers-same h e s t i r = rw (filtered-same f s t filter e (h .«ecu_id») i r)
 
-  finished-at : (start : ℕ) (h : StandardHeader) (s : List ℕ) (at : ℕ) → at ≤ length s → ((r : Range) → h .«ecu_id» ≡ OptRange.Present r → r .start + r .len ≤ length s)
+  finished-at : (start : ℕ) (h : StandardHeader) (s : List ℕ) (at : ℕ) → at ≤ length s → ((r : Text) → h .«ecu_id» ≡ OptText.Present r → r .place .start + r .place .len ≤ length s)
       → LawfulAt (finished f filter stored start h) s at
   unfolding finished
   finished-at start h s at l ecu =

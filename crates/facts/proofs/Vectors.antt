@@ -9,7 +9,7 @@ use Rattle.wire.specs.Answer.Ans.{done, need, hickup, broken}
 use Rattle.wire.specs.Parser.{_>>=_, ret, here, refuse, fail, choose, asking, having, fixed, times}
 use Rattle.wire.specs.Number.{number, numberOf, numeric}
 use Rattle.wire.specs.Run.{bytes}
-use Rattle.strings.specs.Text.{identified, text, textOf}
+use Rattle.strings.specs.Text.{identified, text, endedText, textOf, endedOf}
 use Rattle.strings.specs.Utf8.{validUpTo, upTo, sequence, among, formed}
 use Rattle.mark.specs.First.{find, firstOf, standsAt}
 use Rattle.headertype.specs.HeaderType.{allHeaders, overallLength, headerTypeByte}
@@ -100,7 +100,7 @@ pub sums :
     × (sum true (replicate 15 0) ≡ needs 0)  -- P10
     × (sum true (replicate 16 0) ≡ needs 1)  -- P11
     × (sum false (0x21 ∷ 0x00 ∷ 0x00 ∷ 0x0E ∷ 0x41 ∷ 0x01 ∷ 0x41 ∷ 0x50 ∷ 0x50 ∷ 0x00 ∷ 0x43 ∷ 0x54 ∷ 0x58 ∷ 0x00 ∷ 0x11 ∷ 0x00 ∷ 0x00 ∷ 0x00 ∷ 0x01 ∷ []) ≡ item-of (Sum.values (Value.Bool 1 ∷ [])) 19)  -- P12
-unfolding messageOf judged filterOf filter field tagNext sets counts lastCount ending filterWith message routed choose headers _>>=_ here standard number fixed having asking numberOf flagged maybeId maybeNumber identified text textOf validUpTo upTo sequence among formed ret refuse headerOf endianOf allHeaders overallLength headerTypeByte finished maybeExtended extended named extendedOf knownLevel logLevelOf messageTypeBy havingFrom seen headersOf filteredOut dropsPlain dropsExtended dropsLevel dropsId dropsEcu shortSet body item passed itemOf payload isVerbose isControl controlType networkType countOf isNetwork isBig verbose listOf control plain bytes fail storage marked find firstOf standsAt stored owned arguments times turn argument typeInfo decoded kinded boolean maybeName typeInfoOf kindBy codingOf numeric
+unfolding messageOf judged filterOf filter field tagNext sets counts lastCount ending filterWith message routed choose headers _>>=_ here standard number fixed having asking numberOf flagged maybeId maybeNumber identified text endedText textOf endedOf validUpTo upTo sequence among formed ret refuse headerOf endianOf allHeaders overallLength headerTypeByte finished maybeExtended extended named extendedOf knownLevel logLevelOf messageTypeBy havingFrom seen headersOf filteredOut dropsPlain dropsExtended dropsLevel dropsId dropsEcu shortSet body item passed itemOf payload isVerbose isControl controlType networkType countOf isNetwork isBig verbose listOf control plain bytes fail storage marked find firstOf standsAt stored owned arguments times turn argument typeInfo decoded kinded boolean maybeName typeInfoOf kindBy codingOf numeric
 sums = (refl, refl, refl, refl, refl, refl, refl, refl, refl, refl, refl, refl, refl)
 
 -- P1 and P2 by name, and what P2's answer says, whatever bytes it is asked of
@@ -124,7 +124,7 @@ pub others :
     × (sum false (0x20 ∷ []) ≡ needs 1)
     × (sum false (0x20 ∷ 0x00 ∷ []) ≡ needs 2)
     × (sum false v2 ≡ hickups 2)
-unfolding messageOf judged filterOf filter field tagNext sets counts lastCount ending filterWith message routed choose headers _>>=_ here standard number fixed having asking numberOf flagged maybeId maybeNumber identified text textOf validUpTo upTo sequence among formed ret refuse headerOf endianOf allHeaders overallLength headerTypeByte finished maybeExtended extended named extendedOf knownLevel logLevelOf messageTypeBy havingFrom seen headersOf filteredOut dropsPlain dropsExtended dropsLevel dropsId dropsEcu shortSet body item passed itemOf payload isVerbose isControl controlType networkType countOf isNetwork isBig verbose listOf control plain bytes fail storage marked find firstOf standsAt stored owned arguments times turn argument typeInfo decoded kinded boolean maybeName typeInfoOf kindBy codingOf numeric
+unfolding messageOf judged filterOf filter field tagNext sets counts lastCount ending filterWith message routed choose headers _>>=_ here standard number fixed having asking numberOf flagged maybeId maybeNumber identified text endedText textOf endedOf validUpTo upTo sequence among formed ret refuse headerOf endianOf allHeaders overallLength headerTypeByte finished maybeExtended extended named extendedOf knownLevel logLevelOf messageTypeBy havingFrom seen headersOf filteredOut dropsPlain dropsExtended dropsLevel dropsId dropsEcu shortSet body item passed itemOf payload isVerbose isControl controlType networkType countOf isNetwork isBig verbose listOf control plain bytes fail storage marked find firstOf standsAt stored owned arguments times turn argument typeInfo decoded kinded boolean maybeName typeInfoOf kindBy codingOf numeric
 others = (λ s. refl, refl, refl, refl, refl, refl)
 
 pub p2-says : (s : List ℕ) → ofAnswer (messageOf [] false p2) s ≡ item-of (Sum.id 42) 8

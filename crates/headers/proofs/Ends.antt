@@ -10,11 +10,11 @@ use borrow.Author.Tests.{leb-true}
 use Rattle.wire.specs.Answer.Ans.{done}
 use Rattle.wire.specs.Parser.{pick, ret, refuse, choose}
 use Rattle.wire.specs.Number.{number, numberOf}
-use Rattle.strings.specs.Text.{textOf, identified}
+use Rattle.strings.specs.Text.{endedText, identified}
 use Rattle.headertype.specs.Bits.{flag, bit, oneIf}
-use Rattle.headertype.specs.HeaderType.{rangeBit, numBit, allHeaders, headerTypeByte, overallLength}
+use Rattle.headertype.specs.HeaderType.{textBit, numBit, allHeaders, headerTypeByte, overallLength}
 use Rattle.headertype.specs.declared.OptNum.{OptNum}
-use Rattle.headertype.specs.declared.OptRange.{OptRange}
+use Rattle.headertype.specs.declared.OptText.{OptText}
 use Rattle.headertype.specs.declared.StandardHeader.{StandardHeader}
 use Rattle.headertype.proofs.Lengths.{one-bit, all-headers}
 use Rattle.messageinfo.specs.declared.ExtendedHeader.{ExtendedHeader}
@@ -23,7 +23,7 @@ use Rattle.headers.specs.Extended.{extendedOf, named, extended}
 use Rattle.headers.proofs.Inverse.{split, of-ret, of-refuse, of-number, of-id, of-maybe-id, of-maybe-number}
 
 -- ---- a field that is there if flagged: its bit, and four bytes for it
-id-bit : (b : Bool) (o : OptRange) (s : List ℕ) (at : ℕ) → o ≡ pick b (OptRange.Present (textOf 4 s at)) OptRange.Absent → rangeBit o ≡ oneIf b
+id-bit : (b : Bool) (o : OptText) (s : List ℕ) (at : ℕ) → o ≡ pick b (OptText.Present (endedText 4 s at)) OptText.Absent → textBit o ≡ oneIf b
 id-bit true o s at e = rw e
 id-bit false o s at e = rw e
 
@@ -31,7 +31,7 @@ num-bit : (b : Bool) (o : OptNum) (n : ℕ) → o ≡ pick b (OptNum.Present n) 
 num-bit true o n e = rw e
 num-bit false o n e = rw e
 
-id-ends : (t : Bool) (o : OptRange) (n : ℕ) (s : List ℕ) (at : ℕ) → maybeId t s at ≡ done o n → n ≡ at + rangeBit o * 4
+id-ends : (t : Bool) (o : OptText) (n : ℕ) (s : List ℕ) (at : ℕ) → maybeId t s at ≡ done o n → n ≡ at + textBit o * 4
 id-ends true o n s at e = let r = of-maybe-id true s at e in rw (r .0) (r .1)
 id-ends false o n s at e = let r = of-maybe-id false s at e in rw (r .0) (r .1)
 
@@ -56,8 +56,8 @@ flagged-says type counter long h n s from e =
     by (r1 .value) (r2 .value) (r3 .value) (r3 .mid) (leb (allHeaders type) long) refl (r3 .second) a b c
     (omega (arith, id-ends (flag 4 type) (r1 .value) (r1 .mid) s (from + 4) (r1 .first), num-ends (flag 8 type) (r2 .value) (r2 .mid) s (r1 .mid) (r2 .first), num-ends (flag 16 type) (r3 .value) (r3 .mid) s (r2 .mid) (r3 .first)))
   where
-    by : (ecu : OptRange) (session time : OptNum) (k : ℕ) (t : Bool) → leb (allHeaders type) long ≡ t → pick t (ret (headerOf type counter long ecu session time) s k) (refuse 1 s k) ≡ done h n
-        → rangeBit ecu ≡ bit 4 type → numBit session ≡ bit 8 type → numBit time ≡ bit 16 type → k ≡ from + 4 + rangeBit ecu * 4 + numBit session * 4 + numBit time * 4 → Says h from n long
+    by : (ecu : OptText) (session time : OptNum) (k : ℕ) (t : Bool) → leb (allHeaders type) long ≡ t → pick t (ret (headerOf type counter long ecu session time) s k) (refuse 1 s k) ≡ done h n
+        → textBit ecu ≡ bit 4 type → numBit session ≡ bit 8 type → numBit time ≡ bit 16 type → k ≡ from + 4 + textBit ecu * 4 + numBit session * 4 + numBit time * 4 → Says h from n long
     by ecu session time k true q g a b c z =
         let o = of-ret s k (headerOf type counter long ecu session time) g in
         let l = leb-true (allHeaders type) long q in

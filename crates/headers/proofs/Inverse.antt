@@ -12,7 +12,8 @@ use Rattle.wire.specs.Parser.{pick, follow, _>>=_, ret, refuse, choose, asking,
 use Rattle.wire.specs.Number.{numberOf, number}
 use Rattle.wire.specs.Run.{range, bytes}
 use Rattle.wire.specs.declared.Range.{Range}
-use Rattle.strings.specs.Text.{textOf, textNeed, text, identified}
+use Rattle.wire.specs.declared.Text.{Text}
+use Rattle.strings.specs.Text.{textOf, textNeed, endedText, text, identified}
 use Rattle.strings.proofs.Strings.{text-within, identified-law}
 use Rattle.wire.specs.Lawful.{Lawful}
 use Rattle.wire.proofs.Step.{ends}
@@ -22,7 +23,7 @@ use Rattle.headertype.specs.HeaderType.{allHeaders}
 use Rattle.headertype.specs.declared.StandardHeader.{StandardHeader}
 use Rattle.messageinfo.specs.declared.ExtendedHeader.{ExtendedHeader}
 use Rattle.headertype.specs.declared.OptNum.{OptNum}
-use Rattle.headertype.specs.declared.OptRange.{OptRange}
+use Rattle.headertype.specs.declared.OptText.{OptText}
 use Rattle.headers.specs.Standard.{maybeId, maybeNumber, headerOf, flagged, standard}
 use Rattle.headers.specs.Extended.{extendedOf, named, extended}
 use Rattle.headers.proofs.Laws.{maybeId-law}
@@ -84,20 +85,20 @@ pub of-bytes : {v : Range} {n : ℕ} (w : ℕ) (s : List ℕ) (at : ℕ) → byt
 unfolding bytes fixed having
 of-bytes w s at e = of-asking s at w (lacking w) (λ s at. range at w) e
 
-pub of-id : {v : Range} {n : ℕ} (s : List ℕ) (at : ℕ) → identified s at ≡ done v n → (v ≡ textOf 4 s at) × (n ≡ at + 4)
+pub of-id : {v : Text} {n : ℕ} (s : List ℕ) (at : ℕ) → identified s at ≡ done v n → (v ≡ endedText 4 s at) × (n ≡ at + 4)
 unfolding identified text
-of-id s at e = of-asking s at 4 (textNeed 4) (textOf 4) e
+of-id s at e = of-asking s at 4 (textNeed 4) (endedText 4) e
 
 -- what is read if flagged
-pub of-maybe-id : {o : OptRange} {n : ℕ} (t : Bool) (s : List ℕ) (at : ℕ) → maybeId t s at ≡ done o n
-    → (o ≡ pick t (OptRange.Present (textOf 4 s at)) OptRange.Absent) × (n ≡ at + pick t 4 0)
+pub of-maybe-id : {o : OptText} {n : ℕ} (t : Bool) (s : List ℕ) (at : ℕ) → maybeId t s at ≡ done o n
+    → (o ≡ pick t (OptText.Present (endedText 4 s at)) OptText.Absent) × (n ≡ at + pick t 4 0)
 unfolding maybeId choose
 of-maybe-id true s at e =
-    let r = split identified (λ v. ret (OptRange.Present v)) s at e in
+    let r = split identified (λ v. ret (OptText.Present v)) s at e in
     let i = of-id s at (r .first) in
-    let o = of-ret s (r .mid) (OptRange.Present (r .value)) (r .second) in
-    (o .0 ∙ ap OptRange.Present (i .0), o .1 ∙ i .1)
-of-maybe-id false s at e = let o = of-ret s at OptRange.Absent e in (o .0, omega (arith, o .1))
+    let o = of-ret s (r .mid) (OptText.Present (r .value)) (r .second) in
+    (o .0 ∙ ap OptText.Present (i .0), o .1 ∙ i .1)
+of-maybe-id false s at e = let o = of-ret s at OptText.Absent e in (o .0, omega (arith, o .1))
 
 pub of-maybe-number : {o : OptNum} {n : ℕ} (t : Bool) (s : List ℕ) (at : ℕ) → maybeNumber t s at ≡ done o n
     → (o ≡ pick t (OptNum.Present (numberOf true 4 s at)) OptNum.Absent) × (n ≡ at + pick t 4 0)
@@ -113,8 +114,8 @@ of-maybe-number false s at e = let o = of-ret s at OptNum.Absent e in (o .0, ome
 abbrev pub Inside : List ℕ → Range → Type 0
 Inside s r = r .start + r .len ≤ length s
 
-pub id-inside : {v : Range} {n : ℕ} (s : List ℕ) (at : ℕ) → n ≤ length s → identified s at ≡ done v n → Inside s v
-unfolding textOf
+pub id-inside : {v : Text} {n : ℕ} (s : List ℕ) (at : ℕ) → n ≤ length s → identified s at ≡ done v n → Inside s (v .place)
+unfolding textOf endedText
 id-inside s at h e =
     let i = of-id s at e in
     let w : textOf 4 s at .len ≤ 4 = text-within 4 s at in
@@ -123,23 +124,23 @@ id-inside s at h e =
 ends-at : {A : Type 0} (p : Parser A) → Lawful p → (s : List ℕ) (at : ℕ) {a : A} {b : ℕ} → at ≤ length s → p s at ≡ done a b → b ≤ length s
 ends-at p l s at h e = ends {p = p} s at l h e .1
 
-maybe-inside : (t : Bool) (o : OptRange) (n : ℕ) (s : List ℕ) (at : ℕ) → at ≤ length s → maybeId t s at ≡ done o n → (r : Range) → o ≡ OptRange.Present r → Inside s r
+maybe-inside : (t : Bool) (o : OptText) (n : ℕ) (s : List ℕ) (at : ℕ) → at ≤ length s → maybeId t s at ≡ done o n → (r : Text) → o ≡ OptText.Present r → Inside s (r .place)
 unfolding maybeId choose
 maybe-inside true o n s at h e r z =
-    let p = split identified (λ v. ret (OptRange.Present v)) s at e in
-    let q = of-ret s (p .mid) (OptRange.Present (p .value)) (p .second) in
+    let p = split identified (λ v. ret (OptText.Present v)) s at e in
+    let q = of-ret s (p .mid) (OptText.Present (p .value)) (p .second) in
     let l = ends-at identified identified-law s at h (p .first) in
-    let x : OptRange.Present (p .value) ≡ OptRange.Present r = sym (q .0) ∙ z in
+    let x : OptText.Present (p .value) ≡ OptText.Present r = sym (q .0) ∙ z in
     let y : p .value ≡ r = cc in
-    subst (Inside s) y (id-inside s at l (p .first))
+    subst (λ (x : Text). Inside s (x .place)) y (id-inside s at l (p .first))
 maybe-inside false o n s at h e r z =
-    let q = of-ret s at OptRange.Absent e in
-    let x : OptRange.Absent ≡ OptRange.Present r = sym (q .0) ∙ z in
+    let q = of-ret s at OptText.Absent e in
+    let x : OptText.Absent ≡ OptText.Present r = sym (q .0) ∙ z in
     let y : _≡_ {A = ℕ} 0 1 = cc in
     absurd (omega arith)
 
 flagged-inside : (type counter long : ℕ) (h : StandardHeader) (n : ℕ) (s : List ℕ) (at : ℕ) → at ≤ length s → flagged type counter long s at ≡ done h n
-    → (r : Range) → h .«ecu_id» ≡ OptRange.Present r → Inside s r
+    → (r : Text) → h .«ecu_id» ≡ OptText.Present r → Inside s (r .place)
 unfolding flagged choose headerOf
 flagged-inside type counter long h n s at l e r z =
     let r1 = split (maybeId (flag 4 type)) _ s at e in
@@ -147,14 +148,14 @@ flagged-inside type counter long h n s at l e r z =
     let r3 = split (maybeNumber (flag 16 type)) _ s (r2 .mid) (r2 .second) in
     by (r1 .value) (r2 .value) (r3 .value) (r3 .mid) (leb (allHeaders type) long) (r3 .second) (maybe-inside (flag 4 type) (r1 .value) (r1 .mid) s at l (r1 .first) r)
   where
-    by : (ecu : OptRange) (session time : OptNum) (k : ℕ) (b : Bool) → pick b (ret (headerOf type counter long ecu session time) s k) (refuse 1 s k) ≡ done h n
-        → (ecu ≡ OptRange.Present r → Inside s r) → Inside s r
+    by : (ecu : OptText) (session time : OptNum) (k : ℕ) (b : Bool) → pick b (ret (headerOf type counter long ecu session time) s k) (refuse 1 s k) ≡ done h n
+        → (ecu ≡ OptText.Present r → Inside s (r .place)) → Inside s (r .place)
     by ecu session time k true g f =
         let o = of-ret s k (headerOf type counter long ecu session time) g in
         f (sym (ap (λ (x : StandardHeader). x .«ecu_id») (o .0)) ∙ z)
     by ecu session time k false g f = of-refuse s k 1 g
 
-pub ecu-inside : (h : StandardHeader) (n : ℕ) (s : List ℕ) (at : ℕ) → at ≤ length s → standard s at ≡ done h n → (r : Range) → h .«ecu_id» ≡ OptRange.Present r → Inside s r
+pub ecu-inside : (h : StandardHeader) (n : ℕ) (s : List ℕ) (at : ℕ) → at ≤ length s → standard s at ≡ done h n → (r : Text) → h .«ecu_id» ≡ OptText.Present r → Inside s (r .place)
 unfolding standard
 ecu-inside h n s at l e r z =
     let r1 = split (number true 1) _ s at e in
@@ -165,7 +166,7 @@ ecu-inside h n s at l e r z =
     let l3 = ends-at (number true 2) (number-law true 2) s (r2 .mid) l2 (r3 .first) in
     flagged-inside (r1 .value) (r2 .value) (r3 .value) h n s (r3 .mid) l3 (r3 .second) r z
 
-named-inside : (info count : ℕ) (x : ExtendedHeader) (n : ℕ) (s : List ℕ) (at : ℕ) → at ≤ length s → named info count s at ≡ done x n → Inside s (x .«application_id») × Inside s (x .«context_id»)
+named-inside : (info count : ℕ) (x : ExtendedHeader) (n : ℕ) (s : List ℕ) (at : ℕ) → at ≤ length s → named info count s at ≡ done x n → Inside s (x .«application_id» .place) × Inside s (x .«context_id» .place)
 unfolding named extendedOf
 named-inside info count x n s at l e =
     let r1 = split identified _ s at e in
@@ -175,7 +176,7 @@ named-inside info count x n s at l e =
     let o = of-ret s (r2 .mid) (extendedOf info count (r1 .value) (r2 .value)) (r2 .second) in
     rw (o .0) (id-inside s at l1 (r1 .first), id-inside s (r1 .mid) l2 (r2 .first))
 
-pub ids-inside : (x : ExtendedHeader) (n : ℕ) (s : List ℕ) (at : ℕ) → at ≤ length s → extended s at ≡ done x n → Inside s (x .«application_id») × Inside s (x .«context_id»)
+pub ids-inside : (x : ExtendedHeader) (n : ℕ) (s : List ℕ) (at : ℕ) → at ≤ length s → extended s at ≡ done x n → Inside s (x .«application_id» .place) × Inside s (x .«context_id» .place)
 unfolding extended
 ids-inside x n s at l e =
     let r1 = split (number true 1) _ s at e in

@@ -7,13 +7,13 @@ use Rattle.wire.specs.Answer.Ans.{done, need, hickup}
 use Rattle.wire.specs.Parser.{_>>=_}
 use Rattle.wire.proofs.Reading.{by-done, by-need, by-hickup, reading}
 use Rattle.headertype.specs.declared.OptNum.{OptNum}
-use Rattle.headertype.specs.declared.OptRange.{OptRange}
+use Rattle.headertype.specs.declared.OptText.{OptText}
 use Rattle.headertype.specs.declared.StandardHeader.{StandardHeader}
 use Rattle.messageinfo.specs.declared.ExtendedHeader.{ExtendedHeader}
-use Rattle.headers.specs.Standard.{optRangeAns, optNumAns, standardAns}
+use Rattle.headers.specs.Standard.{optTextAns, optNumAns, standardAns}
 use Rattle.headers.specs.Extended.{extendedAns}
-use Rattle.headers.specs.declared.OptRangeAns.{OptRangeAns}
-use Rattle.headers.specs.declared.GotOptRange.{GotOptRange}
+use Rattle.headers.specs.declared.OptTextAns.{OptTextAns}
+use Rattle.headers.specs.declared.GotOptText.{GotOptText}
 use Rattle.headers.specs.declared.OptNumAns.{OptNumAns}
 use Rattle.headers.specs.declared.GotOptNum.{GotOptNum}
 use Rattle.headers.specs.declared.StandardAns.{StandardAns}
@@ -21,12 +21,12 @@ use Rattle.headers.specs.declared.GotStandard.{GotStandard}
 use Rattle.headers.specs.declared.ExtendedAns.{ExtendedAns}
 use Rattle.headers.specs.declared.GotExtended.{GotExtended}
 
-module _ {B : Type 0} (p : Parser OptRange) (k : OptRange → Parser B) (s : List ℕ) (at : ℕ) where
-  pub stepOptRange : (r : OptRangeAns) (g : GotOptRange) (x : Ans B) → optRangeAns r ≡ p s at → r ≡ OptRangeAns.Done g → x ≡ k (g .v) s (g .next) → x ≡ (p >>= k) s at
-  stepOptRange r g x e q f = by-done optRangeAns p k s at e q refl f
+module _ {B : Type 0} (p : Parser OptText) (k : OptText → Parser B) (s : List ℕ) (at : ℕ) where
+  pub stepOptText : (r : OptTextAns) (g : GotOptText) (x : Ans B) → optTextAns r ≡ p s at → r ≡ OptTextAns.Done g → x ≡ k (g .v) s (g .next) → x ≡ (p >>= k) s at
+  stepOptText r g x e q f = by-done optTextAns p k s at e q refl f
 
-  pub needOptRange : (r : OptRangeAns) (n : ℕ) → optRangeAns r ≡ p s at → r ≡ OptRangeAns.Need n → need n ≡ (p >>= k) s at
-  needOptRange r n e q = by-need optRangeAns p k s at e q refl
+  pub needOptText : (r : OptTextAns) (n : ℕ) → optTextAns r ≡ p s at → r ≡ OptTextAns.Need n → need n ≡ (p >>= k) s at
+  needOptText r n e q = by-need optTextAns p k s at e q refl
 
 module _ {B : Type 0} (p : Parser OptNum) (k : OptNum → Parser B) (s : List ℕ) (at : ℕ) where
   pub stepOptNum : (r : OptNumAns) (g : GotOptNum) (x : Ans B) → optNumAns r ≡ p s at → r ≡ OptNumAns.Done g → x ≡ k (g .v) s (g .next) → x ≡ (p >>= k) s at
@@ -52,4 +52,4 @@ module _ {B : Type 0} (p : Parser ExtendedHeader) (k : ExtendedHeader → Parser
   pub needExtended : (r : ExtendedAns) (n : ℕ) → extendedAns r ≡ p s at → r ≡ ExtendedAns.Need n → need n ≡ (p >>= k) s at
   needExtended r n e q = by-need extendedAns p k s at e q refl
 
-pub ruleset headers-reading = (reading, stepOptRange, needOptRange, stepOptNum, needOptNum, stepStandard, needStandard, hickupStandard, stepExtended, needExtended)
+pub ruleset headers-reading = (reading, stepOptText, needOptText, stepOptNum, needOptNum, stepStandard, needStandard, hickupStandard, stepExtended, needExtended)

@@ -5,7 +5,7 @@ use Rattle.wire.specs.Answer.{Ans, Parser}
 use Rattle.wire.specs.Answer.Ans.{done, need}
 use Rattle.wire.specs.Parser.{ret, _>>=_}
 use Rattle.wire.specs.Number.{number}
-use Rattle.wire.specs.declared.Range.{Range}
+use Rattle.wire.specs.declared.Text.{Text}
 use Rattle.strings.specs.Text.{identified}
 use Rattle.headertype.specs.Bits.{flag}
 use Rattle.messageinfo.specs.MessageInfo.{messageTypeOf}
@@ -13,7 +13,7 @@ use Rattle.messageinfo.specs.declared.ExtendedHeader.{ExtendedHeader}
 use Rattle.headers.specs.declared.ExtendedAns.{ExtendedAns}
 
 -- bit 0 of the message info is verbose
-unfoldable pub extendedOf : ℕ → ℕ → Range → Range → ExtendedHeader
+unfoldable pub extendedOf : ℕ → ℕ → Text → Text → ExtendedHeader
 extendedOf info count app context = record {
   verbose = flag 1 info;
   «argument_count» = count;

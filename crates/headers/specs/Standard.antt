@@ -12,16 +12,16 @@ use Rattle.strings.specs.Text.{identified}
 use Rattle.headertype.specs.Bits.{flag}
 use Rattle.headertype.specs.HeaderType.{allHeaders}
 use Rattle.headertype.specs.declared.OptNum.{OptNum}
-use Rattle.headertype.specs.declared.OptRange.{OptRange}
+use Rattle.headertype.specs.declared.OptText.{OptText}
 use Rattle.headertype.specs.declared.Endianness.{Endianness}
 use Rattle.headertype.specs.declared.StandardHeader.{StandardHeader}
 use Rattle.headers.specs.declared.OptNumAns.{OptNumAns}
-use Rattle.headers.specs.declared.OptRangeAns.{OptRangeAns}
+use Rattle.headers.specs.declared.OptTextAns.{OptTextAns}
 use Rattle.headers.specs.declared.StandardAns.{StandardAns}
 
 -- an identifier, and 32 bits big-endian, if flagged
-unfoldable pub maybeId : Bool → Parser OptRange
-maybeId t = choose t (identified >>= (λ v. ret (OptRange.Present v))) (ret OptRange.Absent)
+unfoldable pub maybeId : Bool → Parser OptText
+maybeId t = choose t (identified >>= (λ v. ret (OptText.Present v))) (ret OptText.Absent)
 
 unfoldable pub maybeNumber : Bool → Parser OptNum
 maybeNumber t = choose t (number true 4 >>= (λ v. ret (OptNum.Present v))) (ret OptNum.Absent)
@@ -31,7 +31,7 @@ unfoldable pub endianOf : ℕ → Endianness
 endianOf type = pick (flag 2 type) Endianness.Big Endianness.Little
 
 -- the header, of its fields
-unfoldable pub headerOf : ℕ → ℕ → ℕ → OptRange → OptNum → OptNum → StandardHeader
+unfoldable pub headerOf : ℕ → ℕ → ℕ → OptText → OptNum → OptNum → StandardHeader
 headerOf type counter length ecu session time = record {
   version = type / 32;
   endianness = endianOf type;
@@ -66,9 +66,9 @@ declared = do
   number true 2
 
 -- the answers that the enums stand for
-abbrev pub optRangeAns : OptRangeAns → Ans OptRange
-optRangeAns (OptRangeAns.Done g) = done (g .v) (g .next)
-optRangeAns (OptRangeAns.Need n) = need n
+abbrev pub optTextAns : OptTextAns → Ans OptText
+optTextAns (OptTextAns.Done g) = done (g .v) (g .next)
+optTextAns (OptTextAns.Need n) = need n
 
 abbrev pub optNumAns : OptNumAns → Ans OptNum
 optNumAns (OptNumAns.Done g) = done (g .v) (g .next)

@@ -4,27 +4,28 @@ ghost use mathlib.Core.Path.{_≡_};
 ghost use Prim.Native.Nat.{_≤_};
 ghost use Rattle.wire.specs.Number.{u16Ans};
 ghost use Rattle.headertype.specs.HeaderType.{allHeaders};
-ghost use Rattle.headers.specs.Standard.{maybeId, maybeNumber, endianOf, headerOf, flagged, standard, declared, optRangeAns, optNumAns, standardAns};
+ghost use Rattle.headers.specs.Standard.{maybeId, maybeNumber, endianOf, headerOf, flagged, standard, declared, optTextAns, optNumAns, standardAns};
 ghost use Rattle.headers.specs.Extended.{extendedOf, named, extended, extendedAns};
 use headertype::Endianness;
 use headertype::OptNum;
-use headertype::OptRange;
+use headertype::OptText;
 use headertype::StandardHeader;
 use messageinfo::ExtendedHeader;
 use messageinfo::MessageType;
-use wire::Range;
 use wire::RangeAns;
+use wire::Text;
+use wire::TextAns;
 use wire::U8Ans;
 use wire::U16Ans;
 use wire::U32Ans;
 
-pub struct GotOptRange {
-    pub v: OptRange,
+pub struct GotOptText {
+    pub v: OptText,
     pub next: usize,
 }
 
-pub enum OptRangeAns {
-    Done(GotOptRange),
+pub enum OptTextAns {
+    Done(GotOptText),
     Need(usize),
 }
 
@@ -60,23 +61,23 @@ pub enum ExtendedAns {
 }
 
 // An identifier, if `present`.
-fn maybe_parse_ecu_id(s: &[u8], at: usize, present: bool) -> OptRangeAns
-    ensures { λ r. ⌜ optRangeAns r ≡ maybeId present (now (s .entry)) at ⌝ }
+fn maybe_parse_ecu_id(s: &[u8], at: usize, present: bool) -> OptTextAns
+    ensures { λ r. ⌜ optTextAns r ≡ maybeId present (now (s .entry)) at ⌝ }
 {
     if present {
         match strings::identifier(s, at) {
-            RangeAns::Done(id) => {
-                let range = id.v;
-                OptRangeAns::Done(GotOptRange {
-                    v: OptRange::Present(range),
+            TextAns::Done(id) => {
+                let text = id.v;
+                OptTextAns::Done(GotOptText {
+                    v: OptText::Present(text),
                     next: id.next,
                 })
             }
-            RangeAns::Need(no_id) => OptRangeAns::Need(no_id),
+            TextAns::Need(no_id) => OptTextAns::Need(no_id),
         }
     } else {
-        OptRangeAns::Done(GotOptRange {
-            v: OptRange::Absent,
+        OptTextAns::Done(GotOptText {
+            v: OptText::Absent,
             next: at,
         })
     }
@@ -117,7 +118,7 @@ fn header_of(
     typ: u8,
     counter: u8,
     length: u16,
-    ecu: OptRange,
+    ecu: OptText,
     session: OptNum,
     time: OptNum,
 ) -> StandardHeader
@@ -143,8 +144,8 @@ fn flagged_fields(s: &[u8], at: usize, typ: u8, counter: u8, length: u16) -> Sta
     ensures { λ r. ⌜ standardAns r ≡ flagged typ counter length (now (s .entry)) at ⌝ }
 {
     let ecu = match maybe_parse_ecu_id(s, at, typ / 4 % 2 == 1) {
-        OptRangeAns::Done(ecu) => ecu,
-        OptRangeAns::Need(no_ecu) => return StandardAns::Need(no_ecu),
+        OptTextAns::Done(ecu) => ecu,
+        OptTextAns::Need(no_ecu) => return StandardAns::Need(no_ecu),
     };
     let session = match maybe_parse_u32(s, ecu.next, typ / 8 % 2 == 1) {
         OptNumAns::Done(session) => session,
@@ -189,7 +190,7 @@ pub fn dlt_standard_header(s: &[u8], at: usize) -> StandardAns
 }
 
 // The extended header, of its fields.
-fn extended_of(info: u8, count: u8, app: Range, context: Range) -> ExtendedHeader
+fn extended_of(info: u8, count: u8, app: Text, context: Text) -> ExtendedHeader
     ensures { λ r. ⌜ r ≡ extendedOf info count app context ⌝ }
 {
     let message_type = MessageType::try_from(info);
@@ -207,14 +208,16 @@ fn named_fields(s: &[u8], at: usize, info: u8, count: u8) -> ExtendedAns
     ensures { λ r. ⌜ extendedAns r ≡ named info count (now (s .entry)) at ⌝ }
 {
     let app = match strings::identifier(s, at) {
-        RangeAns::Done(app) => app,
-        RangeAns::Need(no_app) => return ExtendedAns::Need(no_app),
+        TextAns::Done(app) => app,
+        TextAns::Need(no_app) => return ExtendedAns::Need(no_app),
     };
     let context = match strings::identifier(s, app.next) {
-        RangeAns::Done(context) => context,
-        RangeAns::Need(no_context) => return ExtendedAns::Need(no_context),
+        TextAns::Done(context) => context,
+        TextAns::Need(no_context) => return ExtendedAns::Need(no_context),
     };
-    let header = extended_of(info, count, app.v, context.v);
+    let application = app.v;
+    let context_id = context.v;
+    let header = extended_of(info, count, application, context_id);
     ExtendedAns::Done(GotExtended {
         v: header,
         next: context.next,

@@ -6,9 +6,9 @@ use mathlib.Core.Path.{_≡_, refl}
 use mathlib.Core.Bool.{Bool, true, false}
 use lib.Dec.{eqb}
 use Rattle.headertype.specs.Bits.{bit, flag, oneIf}
-use Rattle.headertype.specs.HeaderType.{bigBit, rangeBit, numBit, allHeaders, headerTypeByte}
+use Rattle.headertype.specs.HeaderType.{bigBit, textBit, numBit, allHeaders, headerTypeByte}
 use Rattle.headertype.specs.declared.OptNum.{OptNum}
-use Rattle.headertype.specs.declared.OptRange.{OptRange}
+use Rattle.headertype.specs.declared.OptText.{OptText}
 use Rattle.headertype.specs.declared.Endianness.{Endianness}
 use Rattle.headertype.specs.declared.StandardHeader.{StandardHeader}
 
@@ -47,15 +47,15 @@ big-most : (e : Endianness) → bigBit e ≤ 1
 big-most Endianness.Little = omega arith
 big-most Endianness.Big = omega arith
 
-range-most : (o : OptRange) → rangeBit o ≤ 1
-range-most (OptRange.Present r) = omega arith
-range-most OptRange.Absent = omega arith
+text-most : (o : OptText) → textBit o ≤ 1
+text-most (OptText.Present r) = omega arith
+text-most OptText.Absent = omega arith
 
 num-most : (o : OptNum) → numBit o ≤ 1
 num-most (OptNum.Present r) = omega arith
 num-most OptNum.Absent = omega arith
 
 pub all-headers : (h : StandardHeader) → allHeaders (headerTypeByte h)
-    ≡ 4 + rangeBit (h .«ecu_id») * 4 + numBit (h .«session_id») * 4 + numBit (h .timestamp) * 4 + oneIf (h .«has_extended_header») * 10
+    ≡ 4 + textBit (h .«ecu_id») * 4 + numBit (h .«session_id») * 4 + numBit (h .timestamp) * 4 + oneIf (h .«has_extended_header») * 10
 unfolding headerTypeByte
-all-headers h = of-bits _ _ _ _ _ _ (one-most (h .«has_extended_header»)) (big-most (h .endianness)) (range-most (h .«ecu_id»)) (num-most (h .«session_id»)) (num-most (h .timestamp))
+all-headers h = of-bits _ _ _ _ _ _ (one-most (h .«has_extended_header»)) (big-most (h .endianness)) (text-most (h .«ecu_id»)) (num-most (h .«session_id»)) (num-most (h .timestamp))

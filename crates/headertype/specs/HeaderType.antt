@@ -3,7 +3,7 @@ use Prim.Native.Nat.{ℕ, _+_, _*_, _/_, _%_}
 use Rattle.headertype.specs.Bits.{bit, oneIf}
 use Rattle.headertype.specs.declared.Endianness.{Endianness}
 use Rattle.headertype.specs.declared.OptNum.{OptNum}
-use Rattle.headertype.specs.declared.OptRange.{OptRange}
+use Rattle.headertype.specs.declared.OptText.{OptText}
 use Rattle.headertype.specs.declared.StandardHeader.{StandardHeader}
 
 -- the standard header: 4, plus 4 for each of the three fields
@@ -19,9 +19,9 @@ abbrev pub bigBit : Endianness → ℕ
 bigBit Endianness.Little = 0
 bigBit Endianness.Big = 1
 
-abbrev pub rangeBit : OptRange → ℕ
-rangeBit (OptRange.Present r) = 1
-rangeBit OptRange.Absent = 0
+abbrev pub textBit : OptText → ℕ
+textBit (OptText.Present r) = 1
+textBit OptText.Absent = 0
 
 abbrev pub numBit : OptNum → ℕ
 numBit (OptNum.Present n) = 1
@@ -30,7 +30,7 @@ numBit OptNum.Absent = 0
 -- the type byte that announces a header
 unfoldable pub headerTypeByte : StandardHeader → ℕ
 headerTypeByte h =
-    oneIf (h .«has_extended_header») * 1 + bigBit (h .endianness) * 2 + rangeBit (h .«ecu_id») * 4 + numBit (h .«session_id») * 8
+    oneIf (h .«has_extended_header») * 1 + bigBit (h .endianness) * 2 + textBit (h .«ecu_id») * 4 + numBit (h .«session_id») * 8
     + numBit (h .timestamp) * 16 + h .version % 8 * 32
 
 -- the message without its storage header: all headers and the payload

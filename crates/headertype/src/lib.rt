@@ -1,12 +1,13 @@
 // The part of src/dlt.rs of dlt-core 0.20.2 on the storage and the standard header: their types, the header type byte, the lengths of the headers.
 // Copyright 2021 by Accenture ESR. Ported under the Apache License 2.0: see NOTICE.
 //
-// An identifier is a range of the caller's bytes. An Option is an enum for each type. A bit is read by `/` and `%`.
+// An identifier is a range of the caller's bytes, and why it ended. An Option is an enum for each type. A bit is read by `/` and `%`.
 ghost use mathlib.Core.Path.{_≡_};
 ghost use Prim.Native.Nat.{_≤_};
 ghost use Rattle.headertype.specs.Bits.{oneIf};
-ghost use Rattle.headertype.specs.HeaderType.{bigBit, rangeBit, numBit, standardLength, allHeaders, headerTypeByte, overallLength};
+ghost use Rattle.headertype.specs.HeaderType.{bigBit, textBit, numBit, standardLength, allHeaders, headerTypeByte, overallLength};
 use wire::Range;
+use wire::Text;
 
 pub enum OptNum {
     Present(u32),
@@ -18,6 +19,11 @@ pub enum OptRange {
     Absent,
 }
 
+pub enum OptText {
+    Present(Text),
+    Absent,
+}
+
 pub enum Endianness {
     Little,
     Big,
@@ -25,7 +31,7 @@ pub enum Endianness {
 
 pub struct StorageHeader {
     pub timestamp: DltTimeStamp,
-    pub ecu_id: Range,
+    pub ecu_id: Text,
 }
 
 pub struct StandardHeader {
@@ -33,7 +39,7 @@ pub struct StandardHeader {
     pub endianness: Endianness,
     pub has_extended_header: bool,
     pub message_counter: u8,
-    pub ecu_id: OptRange,
+    pub ecu_id: OptText,
     pub session_id: OptNum,
     pub timestamp: OptNum,
     pub payload_length: u16,
@@ -59,12 +65,12 @@ fn big_bit(e: Endianness) -> u8
     }
 }
 
-fn range_bit(o: OptRange) -> u8
-    ensures { λ r. ⌜ (r ≡ rangeBit o) × (r ≤ 1) ⌝ }
+fn text_bit(o: OptText) -> u8
+    ensures { λ r. ⌜ (r ≡ textBit o) × (r ≤ 1) ⌝ }
 {
     match o {
-        OptRange::Present(_) => 1,
-        OptRange::Absent => 0,
+        OptText::Present(_) => 1,
+        OptText::Absent => 0,
     }
 }
 
@@ -88,7 +94,7 @@ impl StandardHeader {
         let timestamp = self.timestamp;
         let extended = one_if(self.has_extended_header);
         let big = big_bit(endianness);
-        let ecu = range_bit(ecu_id);
+        let ecu = text_bit(ecu_id);
         let session = num_bit(session_id);
         let time = num_bit(timestamp);
         extended * WITH_EXTENDED_HEADER_FLAG

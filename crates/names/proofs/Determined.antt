@@ -2,7 +2,7 @@
 use mathlib.Core.Path.{_≡_, refl}
 use Rattle.wire.specs.Answer.{Ans}
 use Rattle.wire.proofs.Determined.{one-answer, back}
-use Rattle.headertype.specs.declared.OptRange.{OptRange}
+use Rattle.headertype.specs.declared.OptText.{OptText}
 use Rattle.names.specs.Names.{nameAns, namesAns}
 use Rattle.names.specs.declared.NameAns.{NameAns}
 use Rattle.names.specs.declared.Names.{Names}
@@ -12,7 +12,7 @@ name-back : (r : NameAns) → back (λ a b. NameAns.Done (record { v = a; next =
 name-back (NameAns.Done g) = refl
 name-back (NameAns.Need n) = refl
 
-pub name-determined : {r r′ : NameAns} {x : Ans OptRange} → nameAns r ≡ x → nameAns r′ ≡ x → r ≡ r′
+pub name-determined : {r r′ : NameAns} {x : Ans OptText} → nameAns r ≡ x → nameAns r′ ≡ x → r ≡ r′
 name-determined = one-answer nameAns (λ a b. NameAns.Done (record { v = a; next = b })) NameAns.Need NameAns.Need name-back
 
 names-back : (r : NamesAns) → back (λ a b. NamesAns.Done (record { v = a; next = b })) NamesAns.Need NamesAns.Need (namesAns r) ≡ r

@@ -6,7 +6,7 @@ use Rattle.wire.specs.Answer.{Ans, Parser}
 use Rattle.wire.specs.Answer.Ans.{need}
 use Rattle.wire.specs.Parser.{_>>=_}
 use Rattle.wire.proofs.Reading.{by-done, by-need, reading}
-use Rattle.headertype.specs.declared.OptRange.{OptRange}
+use Rattle.headertype.specs.declared.OptText.{OptText}
 use Rattle.names.specs.Names.{nameAns, namesAns}
 use Rattle.names.specs.declared.GotName.{GotName}
 use Rattle.names.specs.declared.NameAns.{NameAns}
@@ -14,7 +14,7 @@ use Rattle.names.specs.declared.Names.{Names}
 use Rattle.names.specs.declared.GotNames.{GotNames}
 use Rattle.names.specs.declared.NamesAns.{NamesAns}
 
-module _ {B : Type 0} (p : Parser OptRange) (k : OptRange → Parser B) (s : List ℕ) (at : ℕ) where
+module _ {B : Type 0} (p : Parser OptText) (k : OptText → Parser B) (s : List ℕ) (at : ℕ) where
   pub stepName : (r : NameAns) (g : GotName) (x : Ans B) → nameAns r ≡ p s at → r ≡ NameAns.Done g → x ≡ k (g .v) s (g .next) → x ≡ (p >>= k) s at
   stepName r g x e q f = by-done nameAns p k s at e q refl f
 

@@ -5,29 +5,29 @@ use Rattle.wire.specs.Answer.{Ans, Parser}
 use Rattle.wire.specs.Answer.Ans.{done, need}
 use Rattle.wire.specs.Parser.{ret, choose, _>>=_}
 use Rattle.wire.specs.Number.{number}
-use Rattle.wire.specs.declared.Range.{Range}
+use Rattle.wire.specs.declared.Text.{Text}
 use Rattle.strings.specs.Text.{text}
-use Rattle.headertype.specs.declared.OptRange.{OptRange}
+use Rattle.headertype.specs.declared.OptText.{OptText}
 use Rattle.names.specs.declared.Names.{Names}
 use Rattle.names.specs.declared.NameAns.{NameAns}
 use Rattle.names.specs.declared.NamesAns.{NamesAns}
 
 -- name size and name
-unfoldable pub name : Bool → Parser Range
+unfoldable pub name : Bool → Parser Text
 name big = do
   size ← number big 2
   text size
 
 -- the same, if there is variable info
-unfoldable pub maybeName : Bool → Bool → Parser OptRange
-maybeName info big = choose info (name big >>= (λ v. ret (OptRange.Present v))) (ret OptRange.Absent)
+unfoldable pub maybeName : Bool → Bool → Parser OptText
+maybeName info big = choose info (name big >>= (λ v. ret (OptText.Present v))) (ret OptText.Absent)
 
 -- name size, unit size, name, unit
 unfoldable pub texts : ℕ → ℕ → Parser Names
 texts nameSize unitSize = do
   name ← text nameSize
   unit ← text unitSize
-  ret (record { name = OptRange.Present name; unit = OptRange.Present unit })
+  ret (record { name = OptText.Present name; unit = OptText.Present unit })
 
 unfoldable pub nameAndUnit : Bool → Parser Names
 nameAndUnit big = do
@@ -37,10 +37,10 @@ nameAndUnit big = do
 
 -- the same, if there is variable info
 unfoldable pub maybeNames : Bool → Bool → Parser Names
-maybeNames info big = choose info (nameAndUnit big) (ret (record { name = OptRange.Absent; unit = OptRange.Absent }))
+maybeNames info big = choose info (nameAndUnit big) (ret (record { name = OptText.Absent; unit = OptText.Absent }))
 
 -- the answers that the enums stand for
-abbrev pub nameAns : NameAns → Ans OptRange
+abbrev pub nameAns : NameAns → Ans OptText
 nameAns (NameAns.Done g) = done (g .v) (g .next)
 nameAns (NameAns.Need n) = need n
 

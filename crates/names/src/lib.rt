@@ -1,14 +1,14 @@
 // The names of an argument with variable info: port of `dlt_variable_name` and `dlt_variable_name_and_unit` in parse.rs of dlt-core 0.20.2
 // (Apache-2.0, NOTICE). A name of size 0 is present and empty.
 ghost use mathlib.Core.Path.{_≡_};
-ghost use Rattle.wire.specs.Run.{rangeAns};
+ghost use Rattle.wire.specs.Run.{textAns};
 ghost use Rattle.names.specs.Names.{name, maybeName, texts, nameAndUnit, maybeNames, nameAns, namesAns};
-use dlt::OptRange;
-use wire::RangeAns;
+use dlt::OptText;
+use wire::TextAns;
 use wire::U16Ans;
 
 pub struct GotName {
-    pub v: OptRange,
+    pub v: OptText,
     pub next: usize,
 }
 
@@ -18,8 +18,8 @@ pub enum NameAns {
 }
 
 pub struct Names {
-    pub name: OptRange,
-    pub unit: OptRange,
+    pub name: OptText,
+    pub unit: OptText,
 }
 
 pub struct GotNames {
@@ -33,14 +33,14 @@ pub enum NamesAns {
 }
 
 // A name with its size.
-pub fn dlt_variable_name(s: &[u8], at: usize, big: bool) -> RangeAns
-    ensures { λ r. ⌜ rangeAns r ≡ name big (now (s .entry)) at ⌝ }
+pub fn dlt_variable_name(s: &[u8], at: usize, big: bool) -> TextAns
+    ensures { λ r. ⌜ textAns r ≡ name big (now (s .entry)) at ⌝ }
 {
     match wire::parse_u16(s, at, big) {
         U16Ans::Done(size) => {
             strings::dlt_zero_terminated_string_intern(s, size.next, size.v as usize)
         }
-        U16Ans::Need(no_size) => RangeAns::Need(no_size),
+        U16Ans::Need(no_size) => TextAns::Need(no_size),
     }
 }
 
@@ -50,18 +50,18 @@ pub fn maybe_variable_name(s: &[u8], at: usize, has_variable_info: bool, big: bo
 {
     if has_variable_info {
         match dlt_variable_name(s, at, big) {
-            RangeAns::Done(name) => {
-                let range = name.v;
+            TextAns::Done(name) => {
+                let text = name.v;
                 NameAns::Done(GotName {
-                    v: OptRange::Present(range),
+                    v: OptText::Present(text),
                     next: name.next,
                 })
             }
-            RangeAns::Need(no_name) => NameAns::Need(no_name),
+            TextAns::Need(no_name) => NameAns::Need(no_name),
         }
     } else {
         NameAns::Done(GotName {
-            v: OptRange::Absent,
+            v: OptText::Absent,
             next: at,
         })
     }
@@ -72,19 +72,19 @@ fn two_texts(s: &[u8], at: usize, name_size: u16, unit_size: u16) -> NamesAns
     ensures { λ r. ⌜ namesAns r ≡ texts «name_size» «unit_size» (now (s .entry)) at ⌝ }
 {
     let name = match strings::dlt_zero_terminated_string_intern(s, at, name_size as usize) {
-        RangeAns::Done(name) => name,
-        RangeAns::Need(no_name) => return NamesAns::Need(no_name),
+        TextAns::Done(name) => name,
+        TextAns::Need(no_name) => return NamesAns::Need(no_name),
     };
     let unit = match strings::dlt_zero_terminated_string_intern(s, name.next, unit_size as usize) {
-        RangeAns::Done(unit) => unit,
-        RangeAns::Need(no_unit) => return NamesAns::Need(no_unit),
+        TextAns::Done(unit) => unit,
+        TextAns::Need(no_unit) => return NamesAns::Need(no_unit),
     };
     let named = name.v;
     let measured = unit.v;
     NamesAns::Done(GotNames {
         v: Names {
-            name: OptRange::Present(named),
-            unit: OptRange::Present(measured),
+            name: OptText::Present(named),
+            unit: OptText::Present(measured),
         },
         next: unit.next,
     })
@@ -119,8 +119,8 @@ pub fn dlt_variable_name_and_unit(
     } else {
         NamesAns::Done(GotNames {
             v: Names {
-                name: OptRange::Absent,
-                unit: OptRange::Absent,
+                name: OptText::Absent,
+                unit: OptText::Absent,
             },
             next: at,
         })

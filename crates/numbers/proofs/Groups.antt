@@ -9,17 +9,17 @@ use borrow.Author.Tests.{le-leb, lt-leb}
 use Rattle.table.specs.Over.{over}
 use Rattle.wire.specs.declared.Range.{Range}
 use Rattle.cursor.specs.declared.RawCursor.{RawCursor}
-use Rattle.headertype.specs.declared.OptRange.{OptRange}
+use Rattle.headertype.specs.declared.OptText.{OptText}
 use Rattle.dlt.specs.declared.Argument.{Argument}
 use Rattle.dlt.specs.declared.FixedPoint.{FixedPoint}
 use Rattle.dlt.specs.declared.OptPoint.{OptPoint}
 use Rattle.dlt.specs.declared.TypeInfo.{TypeInfo}
 use Rattle.dlt.specs.declared.TypeInfoKind.{TypeInfoKind}
 use Rattle.dlt.specs.declared.Value.{Value}
-use Rattle.numbers.specs.Layout.{oneIf, rangeNumbers}
-use Rattle.numbers.specs.Arguments.{kindNumber, kindBits, codingNumber, valueNumber, valueFirst, valueSecond, offsetWidth, offsetBits, kindNumbers, codingNumbers, pointNumbers, valueNumbers, typeNumbers, nameNumbers, contentNumbers, argumentNumbers, argumentLaid}
+use Rattle.numbers.specs.Layout.{oneIf, textNumbers, textEnd}
+use Rattle.numbers.specs.Arguments.{kindNumber, kindBits, codingNumber, valueNumber, valueFirst, valueSecond, valueEnd, offsetWidth, offsetBits, kindNumbers, codingNumbers, pointNumbers, valueNumbers, typeNumbers, nameNumbers, contentNumbers, argumentEnds, argumentNumbers, argumentLaid}
 use Rattle.numbers.specs.Raw.{rawNumbers, rawLaid}
-use Rattle.numbers.proofs.Rows.{joined, three-groups, ranges}
+use Rattle.numbers.proofs.Rows.{joined, three-groups, four-groups, texts}
 
 -- ---- where calls gave the numbers: x, y and z
 module _ (T X : List ℕ) (j x y z : ℕ) where
@@ -39,6 +39,10 @@ module _ (T X : List ℕ) (j x y z : ℕ) where
   unfolding valueNumbers
   value-row v ex ey ez h = h ∙ rw (ex, ey, ez)
 
+  pub argument-ends-row : (a : Argument) → x ≡ textEnd (a .name) → y ≡ textEnd (a .unit) → z ≡ valueEnd (a .value) → X ≡ over T j (x ∷ y ∷ z ∷ []) → X ≡ over T j (argumentEnds a)
+  unfolding argumentEnds
+  argument-ends-row a ex ey ez h = h ∙ rw (ex, ey, ez)
+
 pub no-point : (T X : List ℕ) (j : ℕ) (o : OptPoint) → o ≡ OptPoint.Absent → X ≡ over T j (0 ∷ 0 ∷ 0 ∷ 0 ∷ []) → X ≡ over T j (pointNumbers o)
 unfolding pointNumbers
 no-point T X j o q h = h ∙ rw q
@@ -57,9 +61,9 @@ codings : (t : TypeInfo) → length (codingNumbers t) ≡ 3
 unfolding codingNumbers
 codings t = refl
 
-names : (n u : OptRange) → length (nameNumbers n u) ≡ 6
+names : (n u : OptText) → length (nameNumbers n u) ≡ 6
 unfolding nameNumbers
-names n u = omega (arith, length-append (rangeNumbers n) (rangeNumbers u), ranges n, ranges u)
+names n u = omega (arith, length-append (textNumbers n) (textNumbers u), texts n, texts u)
 
 types : (a : Argument) → length (typeNumbers a) ≡ 7
 unfolding typeNumbers
@@ -68,12 +72,23 @@ types a =
     let k = kindNumbers (a .«type_info» .kind) in
     omega (arith, length-append v k, length-append (v ++ k) (codingNumbers (a .«type_info»)), kinds (a .«type_info» .kind), codings (a .«type_info»))
 
--- ---- groups behind one another
-pub names-row : (T A B : List ℕ) (n u : OptRange) → 23 ≤ length T → A ≡ over T 10 (rangeNumbers n) → B ≡ over A 13 (rangeNumbers u) → B ≡ over T 10 (nameNumbers n u)
-unfolding nameNumbers
-names-row T A B n u fits p q = joined T A B (rangeNumbers n) (rangeNumbers u) 10 13 p q (omega (arith, ranges n)) (omega arith)
+values : (v : Value) → length (valueNumbers v) ≡ 3
+unfolding valueNumbers
+values v = refl
 
-module _ (T A B C : List ℕ) (a : Argument) (fits : 23 ≤ length T) where
+contents : (a : Argument) → length (contentNumbers a) ≡ 13
+unfolding contentNumbers
+contents a =
+    let n = nameNumbers (a .name) (a .unit) in
+    let p = pointNumbers (a .«fixed_point») in
+    omega (arith, length-append n p, length-append (n ++ p) (valueNumbers (a .value)), names (a .name) (a .unit), points (a .«fixed_point»), values (a .value))
+
+-- ---- groups behind one another
+pub names-row : (T A B : List ℕ) (n u : OptText) → 26 ≤ length T → A ≡ over T 10 (textNumbers n) → B ≡ over A 13 (textNumbers u) → B ≡ over T 10 (nameNumbers n u)
+unfolding nameNumbers
+names-row T A B n u fits p q = joined T A B (textNumbers n) (textNumbers u) 10 13 p q (omega (arith, texts n)) (omega arith)
+
+module _ (T A B C : List ℕ) (a : Argument) (fits : 26 ≤ length T) where
   pub type-row : A ≡ over T 3 (a .start ∷ a .end ∷ []) → B ≡ over A 5 (kindNumbers (a .«type_info» .kind)) → C ≡ over B 7 (codingNumbers (a .«type_info»)) → C ≡ over T 3 (typeNumbers a)
   unfolding typeNumbers
   type-row p q r =
@@ -88,22 +103,22 @@ module _ (T A B C : List ℕ) (a : Argument) (fits : 23 ≤ length T) where
       (omega (arith, names (a .name) (a .unit))) (omega (arith, points (a .«fixed_point»))) (omega arith)
 
   -- x is what `flag` gave
-  pub handed-row : (at left x : ℕ) (big : Bool) → x ≡ oneIf big → A ≡ over T 0 (at ∷ left ∷ x ∷ []) → B ≡ over A 3 (typeNumbers a) → C ≡ over B 10 (contentNumbers a)
-      → C ≡ over T 0 (argumentNumbers at left big a)
+  pub handed-row : (D : List ℕ) (at left x : ℕ) (big : Bool) → x ≡ oneIf big → A ≡ over T 0 (at ∷ left ∷ x ∷ []) → B ≡ over A 3 (typeNumbers a) → C ≡ over B 10 (contentNumbers a)
+      → D ≡ over C 23 (argumentEnds a) → D ≡ over T 0 (argumentNumbers at left big a)
   unfolding argumentNumbers
-  handed-row at left x big e p q r =
+  handed-row D at left x big e p q r s =
       let v : List ℕ = at ∷ left ∷ oneIf big ∷ [] in
-      three-groups T A B C v (typeNumbers a) (contentNumbers a) 0 3 10 (p ∙ rw e) q r refl (omega (arith, types a)) (omega arith)
+      four-groups T A B C D v (typeNumbers a) (contentNumbers a) (argumentEnds a) 0 3 10 23 (p ∙ rw e) q r s refl (omega (arith, types a)) (omega (arith, contents a)) (omega arith)
 
 -- ---- the whole, where it fits and where it doesn't
 module _ (T X : List ℕ) (at left : ℕ) (big : Bool) (a : Argument) where
-  pub argument-fits : 23 ≤ length T → X ≡ over T 0 (argumentNumbers at left big a) → X ≡ argumentLaid T at left big a
+  pub argument-fits : 26 ≤ length T → X ≡ over T 0 (argumentNumbers at left big a) → X ≡ argumentLaid T at left big a
   unfolding argumentLaid
-  argument-fits h e = e ∙ rw (le-leb 23 (length T) h)
+  argument-fits h e = e ∙ rw (le-leb 26 (length T) h)
 
-  pub argument-short : length T < 23 → T ≡ argumentLaid T at left big a
+  pub argument-short : length T < 26 → T ≡ argumentLaid T at left big a
   unfolding argumentLaid
-  argument-short h = rw (lt-leb 23 (length T) h)
+  argument-short h = rw (lt-leb 26 (length T) h)
 
 -- a raw value; x is what `flag` gave
 module _ (T X : List ℕ) (c : RawCursor) (r : Range) where
@@ -115,4 +130,4 @@ module _ (T X : List ℕ) (c : RawCursor) (r : Range) where
   unfolding rawLaid
   raw-short h = rw (lt-leb 5 (length T) h)
 
-pub ruleset groups = (raw-fits, raw-short, kind-row, coding-row, point-row, value-row, no-point, names-row, type-row, content-row, handed-row, argument-fits, argument-short)
+pub ruleset groups = (raw-fits, raw-short, kind-row, coding-row, point-row, value-row, argument-ends-row, no-point, names-row, type-row, content-row, handed-row, argument-fits, argument-short)

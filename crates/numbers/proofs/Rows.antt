@@ -10,7 +10,7 @@ use borrow.Author.Tests.{le-leb, lt-leb}
 use Rattle.table.specs.Over.{over}
 use Rattle.table.proofs.Laws.{stores, over-over}
 use Rattle.headertype.specs.declared.OptNum.{OptNum}
-use Rattle.headertype.specs.declared.OptRange.{OptRange}
+use Rattle.headertype.specs.declared.OptText.{OptText}
 use Rattle.headertype.specs.declared.StandardHeader.{StandardHeader}
 use Rattle.messageinfo.specs.declared.MessageType.{MessageType}
 use Rattle.storage.specs.declared.OptStored.{OptStored}
@@ -25,7 +25,7 @@ use Rattle.parse.specs.Message.{itemOf}
 use Rattle.parse.specs.declared.Headers.{Headers}
 use Rattle.parse.specs.declared.ParsedMessage.{ParsedMessage}
 use Rattle.messageinfo.specs.Kept.{controlNumber, typeNumber, subtypeNumber}
-use Rattle.numbers.specs.Layout.{oneIf, orderNumber, rangeNumbers, numNumbers, storageNumbers, frontNumbers, standardNumbers, extendedNumbers, payloadNumbers, leadNumbers, itemNumbers, messageNumbers, messageLaid}
+use Rattle.numbers.specs.Layout.{oneIf, orderNumber, textNumbers, numNumbers, storageNumbers, frontNumbers, standardNumbers, extendedNumbers, payloadNumbers, textEnd, storedEnd, applicationEnd, contextEnd, endNumbers, leadNumbers, itemNumbers, messageNumbers, messageLaid}
 
 module _ (T : List ℕ) (k : ℕ) where
   pub row2 : (a b : ℕ) → k + 2 ≤ length T → set (set T k a) (k + 1) b ≡ over T k (a ∷ b ∷ [])
@@ -52,8 +52,8 @@ joined T X Y v u k n p q e h = q ∙ rw (p, e) (over-over T k v (omega arith) u)
 
 -- ---- the variant that was matched for the enum's value
 module _ (T X : List ℕ) (k : ℕ) where
-  pub range-at : (o o′ : OptRange) → o ≡ o′ → X ≡ over T k (rangeNumbers o′) → X ≡ over T k (rangeNumbers o)
-  range-at o o′ q h = rw q h
+  pub text-at : (o o′ : OptText) → o ≡ o′ → X ≡ over T k (textNumbers o′) → X ≡ over T k (textNumbers o)
+  text-at o o′ q h = rw q h
 
   pub num-at : (o o′ : OptNum) → o ≡ o′ → X ≡ over T k (numNumbers o′) → X ≡ over T k (numNumbers o)
   num-at o o′ q h = rw q h
@@ -83,16 +83,16 @@ module _ (T X : List ℕ) (k : ℕ) (p : PayloadContent) (y : ℕ) where
 
 pub extended-row : (T X : List ℕ) (k : ℕ) (o : OptExtended) (x : ExtendedHeader) (v n m : ℕ) → o ≡ OptExtended.Present x → v ≡ oneIf (x .verbose) → n ≡ typeNumber (x .«message_type»)
     → m ≡ subtypeNumber (x .«message_type»)
-    → X ≡ over T k (1 ∷ v ∷ x .«argument_count» ∷ n ∷ m ∷ x .«application_id» .start ∷ x .«application_id» .len ∷ x .«context_id» .start ∷ x .«context_id» .len ∷ [])
+    → X ≡ over T k (1 ∷ v ∷ x .«argument_count» ∷ n ∷ m ∷ x .«application_id» .place .start ∷ x .«application_id» .place .len ∷ x .«context_id» .place .start ∷ x .«context_id» .place .len ∷ [])
     → X ≡ over T k (extendedNumbers o)
 unfolding extendedNumbers
 extended-row T X k o x v n m q ev en em h = h ∙ rw (q, ev, en, em)
 
 -- ---- how many numbers a group has
-pub ranges : (o : OptRange) → length (rangeNumbers o) ≡ 3
-unfolding rangeNumbers
-ranges (OptRange.Present r) = refl
-ranges OptRange.Absent = refl
+pub texts : (o : OptText) → length (textNumbers o) ≡ 3
+unfolding textNumbers
+texts (OptText.Present t) = refl
+texts OptText.Absent = refl
 
 pub nums : (o : OptNum) → length (numNumbers o) ≡ 2
 unfolding numNumbers
@@ -123,18 +123,24 @@ module _ (T A B C a b c : List ℕ) (k l m : ℕ) where
       let two = joined T A B a b k l p q e (omega arith) in
       joined T B C (a ++ b) c k m two r (omega (arith, length-append a b)) h
 
+module _ (T A B C D a b c d : List ℕ) (k l m n : ℕ) where
+  pub four-groups : A ≡ over T k a → B ≡ over A l b → C ≡ over B m c → D ≡ over C n d → l ≡ k + length a → m ≡ l + length b → n ≡ m + length c → n ≤ length T → D ≡ over T k (((a ++ b) ++ c) ++ d)
+  four-groups p q r s e f g h =
+      let three = three-groups T A B C a b c k l m p q r e f (omega arith) in
+      joined T C D ((a ++ b) ++ c) d k n three s (omega (arith, length-append a b, length-append (a ++ b) c)) h
+
 pub standards : (h : StandardHeader) → length (standardNumbers h) ≡ 11
 unfolding standardNumbers frontNumbers
 standards h =
     let v = frontNumbers h in
-    let w = v ++ rangeNumbers (h .«ecu_id») in
+    let w = v ++ textNumbers (h .«ecu_id») in
     let x = w ++ numNumbers (h .«session_id») in
     omega (
       arith,
-      length-append v (rangeNumbers (h .«ecu_id»)),
+      length-append v (textNumbers (h .«ecu_id»)),
       length-append w (numNumbers (h .«session_id»)),
       length-append x (numNumbers (h .timestamp)),
-      ranges (h .«ecu_id»),
+      texts (h .«ecu_id»),
       nums (h .«session_id»),
       nums (h .timestamp),
     )
@@ -145,22 +151,19 @@ pub front-row : (T X : List ℕ) (h : StandardHeader) (x y : ℕ) → x ≡ orde
 unfolding frontNumbers
 front-row T X h x y ex ey p = p ∙ rw (ex, ey)
 
+-- a to d are what calls gave for why the four identifiers ended
+pub ends-row : (T X : List ℕ) (o : OptStored) (h : StandardHeader) (x : OptExtended) (a b c d : ℕ) → a ≡ storedEnd o → b ≡ textEnd (h .«ecu_id») → c ≡ applicationEnd x → d ≡ contextEnd x
+    → X ≡ over T 33 (a ∷ b ∷ c ∷ d ∷ []) → X ≡ over T 33 (endNumbers o h x)
+unfolding endNumbers
+ends-row T X o h x a b c d ea eb ec ed p = p ∙ rw (ea, eb, ec, ed)
+
 -- what the calls of `put_standard` leave, one after another
-pub standard-row : (T A B C D : List ℕ) (h : StandardHeader) → 33 ≤ length T → A ≡ over T 8 (frontNumbers h) → B ≡ over A 12 (rangeNumbers (h .«ecu_id»))
+pub standard-row : (T A B C D : List ℕ) (h : StandardHeader) → 37 ≤ length T → A ≡ over T 8 (frontNumbers h) → B ≡ over A 12 (textNumbers (h .«ecu_id»))
     → C ≡ over B 15 (numNumbers (h .«session_id»)) → D ≡ over C 17 (numNumbers (h .timestamp)) → D ≡ over T 8 (standardNumbers h)
 unfolding standardNumbers frontNumbers
 standard-row T A B C D h fits p q r s =
-    let v = frontNumbers h in
-    let w = v ++ rangeNumbers (h .«ecu_id») in
-    let three =
-    three-groups T A B C v (rangeNumbers (h .«ecu_id»)) (numNumbers (h .«session_id»)) 8 12 15 p q r refl (omega (arith, ranges (h .«ecu_id»))) (omega arith) in
-    joined T C D (w ++ numNumbers (h .«session_id»)) (numNumbers (h .timestamp)) 8 17 three s (omega (
-      arith,
-      length-append v (rangeNumbers (h .«ecu_id»)),
-      length-append w (numNumbers (h .«session_id»)),
-      ranges (h .«ecu_id»),
-      nums (h .«session_id»),
-    )) (omega arith)
+    four-groups T A B C D (frontNumbers h) (textNumbers (h .«ecu_id»)) (numNumbers (h .«session_id»)) (numNumbers (h .timestamp)) 8 12 15 17 p q r s refl
+    (omega (arith, texts (h .«ecu_id»))) (omega (arith, nums (h .«session_id»))) (omega arith)
 
 -- what the calls of `put_lead` and of `put_item` leave
 pub leads : (o : OptStored) (h : StandardHeader) → length (leadNumbers o h) ≡ 19
@@ -170,7 +173,7 @@ leads o h =
     let b = storageNumbers o in
     omega (arith, length-append a b, length-append (a ++ b) (standardNumbers h), storages o, standards h)
 
-module _ (T A B C : List ℕ) (fits : 33 ≤ length T) where
+module _ (T A B C : List ℕ) (fits : 37 ≤ length T) where
   pub lead-row : (o : OptStored) (h : StandardHeader) → A ≡ over T 0 (0 ∷ h .«payload_length» ∷ []) → B ≡ over A 2 (storageNumbers o) → C ≡ over B 8 (standardNumbers h)
       → C ≡ over T 0 (leadNumbers o h)
   unfolding leadNumbers
@@ -178,20 +181,21 @@ module _ (T A B C : List ℕ) (fits : 33 ≤ length T) where
       let a : List ℕ = 0 ∷ h .«payload_length» ∷ [] in
       three-groups T A B C a (storageNumbers o) (standardNumbers h) 0 2 8 p q r refl (omega (arith, storages o)) (omega arith)
 
-  pub item-row : (h : Headers) (p : PayloadContent) → A ≡ over T 0 (leadNumbers (h .«storage_header») (h .header)) → B ≡ over A 19 (extendedNumbers (h .«extended_header»))
-      → C ≡ over B 28 (payloadNumbers p) → C ≡ messageLaid T (itemOf h p)
+  pub item-row : (D : List ℕ) (h : Headers) (p : PayloadContent) → A ≡ over T 0 (leadNumbers (h .«storage_header») (h .header)) → B ≡ over A 19 (extendedNumbers (h .«extended_header»))
+      → C ≡ over B 28 (payloadNumbers p) → D ≡ over C 33 (endNumbers (h .«storage_header») (h .header) (h .«extended_header»)) → D ≡ messageLaid T (itemOf h p)
   unfolding messageLaid messageNumbers itemNumbers itemOf
-  item-row h p a b c =
-      rw (le-leb 33 (length T) fits)
-      (three-groups T A B C (leadNumbers (h .«storage_header») (h .header)) (extendedNumbers (h .«extended_header»)) (payloadNumbers p) 0 19 28 a b c
-      (omega (arith, leads (h .«storage_header») (h .header))) (omega (arith, extendeds (h .«extended_header»))) (omega arith))
+  item-row D h p a b c d =
+      rw (le-leb 37 (length T) fits)
+      (four-groups T A B C D (leadNumbers (h .«storage_header») (h .header)) (extendedNumbers (h .«extended_header»)) (payloadNumbers p)
+      (endNumbers (h .«storage_header») (h .header) (h .«extended_header»)) 0 19 28 33 a b c d
+      (omega (arith, leads (h .«storage_header») (h .header))) (omega (arith, extendeds (h .«extended_header»))) (omega (arith, payloads p)) (omega arith))
 
   pub filtered-row : (n : ℕ) → A ≡ over T 0 (1 ∷ n ∷ []) → A ≡ messageLaid T (ParsedMessage.FilteredOut n)
   unfolding messageLaid messageNumbers
-  filtered-row n e = rw (le-leb 33 (length T) fits) e
+  filtered-row n e = rw (le-leb 37 (length T) fits) e
 
-pub message-short : (T : List ℕ) (p : ParsedMessage) → length T < 33 → T ≡ messageLaid T p
+pub message-short : (T : List ℕ) (p : ParsedMessage) → length T < 37 → T ≡ messageLaid T p
 unfolding messageLaid
-message-short T p h = rw (lt-leb 33 (length T) h)
+message-short T p h = rw (lt-leb 37 (length T) h)
 
-pub ruleset rows = (range-at, num-at, storage-at, extended-at, payload-at, verbose-row, trace-row, control-row, extended-row, front-row, standard-row, lead-row, item-row, filtered-row, message-short)
+pub ruleset rows = (text-at, num-at, storage-at, extended-at, payload-at, verbose-row, trace-row, control-row, extended-row, front-row, ends-row, standard-row, lead-row, item-row, filtered-row, message-short)

@@ -1,5 +1,6 @@
 -- The numbers of an argument and of the cursor behind it, in the order in which a host finds them in the slice that it lends. A place is counted
--- from 0. What is absent has 0 for its flag and for its values. A text or a run of bytes is its place in the bytes and its length.
+-- from 0. What is absent has 0 for its flag and for its values. A text or a run of bytes is its place in the bytes and its length; why a text ended stands
+-- behind everything else.
 use Prim.Native.Nat.{ℕ, _-_}
 use mathlib.Core.Bool.{Bool}
 use mathlib.Core.List.{List, [], _∷_, _++_}
@@ -9,7 +10,7 @@ use lib.Ieee.{binary32, binary64, toBits}
 use lib.Dec.{leb}
 use Rattle.wire.specs.Parser.{pick}
 use Rattle.table.specs.Over.{over}
-use Rattle.headertype.specs.declared.OptRange.{OptRange}
+use Rattle.headertype.specs.declared.OptText.{OptText}
 use Rattle.dlt.specs.declared.Argument.{Argument}
 use Rattle.dlt.specs.declared.FixedPointValue.{FixedPointValue}
 use Rattle.dlt.specs.declared.FloatWidth.{FloatWidth}
@@ -19,7 +20,7 @@ use Rattle.dlt.specs.declared.TypeInfo.{TypeInfo}
 use Rattle.dlt.specs.declared.TypeInfoKind.{TypeInfoKind}
 use Rattle.dlt.specs.declared.TypeLength.{TypeLength}
 use Rattle.dlt.specs.declared.Value.{Value}
-use Rattle.numbers.specs.Layout.{oneIf, rangeNumbers}
+use Rattle.numbers.specs.Layout.{oneIf, textNumbers, endedNumber, textEnd}
 
 -- a signed number by two's complement of 64 bits; `negsuc n` is the negative of n + 1
 abbrev pub signedBits : ℤ → ℕ
@@ -81,7 +82,7 @@ valueNumber (Value.F32 x) = 11
 valueNumber (Value.F64 x) = 12
 valueNumber (Value.F32NotANumber p) = 11
 valueNumber (Value.F64NotANumber p) = 12
-valueNumber (Value.StringVal r) = 13
+valueNumber (Value.StringVal t) = 13
 valueNumber (Value.Raw r) = 14
 
 abbrev pub valueFirst : Value → ℕ
@@ -100,7 +101,7 @@ valueFirst (Value.F32 x) = toBits binary32 x
 valueFirst (Value.F64 x) = toBits binary64 x
 valueFirst (Value.F32NotANumber p) = p
 valueFirst (Value.F64NotANumber p) = p
-valueFirst (Value.StringVal r) = r .start
+valueFirst (Value.StringVal t) = t .place .start
 valueFirst (Value.Raw r) = r .start
 
 abbrev pub valueSecond : Value → ℕ
@@ -119,8 +120,28 @@ valueSecond (Value.F32 x) = 0
 valueSecond (Value.F64 x) = 0
 valueSecond (Value.F32NotANumber p) = 0
 valueSecond (Value.F64NotANumber p) = 0
-valueSecond (Value.StringVal r) = r .len
+valueSecond (Value.StringVal t) = t .place .len
 valueSecond (Value.Raw r) = r .len
+
+-- why a string ended; no other value has a reason
+abbrev pub valueEnd : Value → ℕ
+valueEnd (Value.Bool n) = 0
+valueEnd (Value.U8 n) = 0
+valueEnd (Value.U16 n) = 0
+valueEnd (Value.U32 n) = 0
+valueEnd (Value.U64 n) = 0
+valueEnd (Value.U128 h l) = 0
+valueEnd (Value.I8 n) = 0
+valueEnd (Value.I16 n) = 0
+valueEnd (Value.I32 n) = 0
+valueEnd (Value.I64 n) = 0
+valueEnd (Value.I128 h l) = 0
+valueEnd (Value.F32 x) = 0
+valueEnd (Value.F64 x) = 0
+valueEnd (Value.F32NotANumber p) = 0
+valueEnd (Value.F64NotANumber p) = 0
+valueEnd (Value.StringVal t) = endedNumber (t .ended)
+valueEnd (Value.Raw r) = 0
 
 abbrev pub offsetWidth : FixedPointValue → ℕ
 offsetWidth (FixedPointValue.I32 n) = 32
@@ -141,8 +162,8 @@ unfoldable pub typeNumbers : Argument → List ℕ
 typeNumbers a = ((a .start ∷ a .end ∷ []) ++ kindNumbers (a .«type_info» .kind)) ++ codingNumbers (a .«type_info»)
 
 -- ---- from place 10 on, thirteen: name; unit; fixed point or not, the quantization's pattern, the offset's bits, the offset; the value
-unfoldable pub nameNumbers : OptRange → OptRange → List ℕ
-nameNumbers name unit = rangeNumbers name ++ rangeNumbers unit
+unfoldable pub nameNumbers : OptText → OptText → List ℕ
+nameNumbers name unit = textNumbers name ++ textNumbers unit
 
 unfoldable pub pointNumbers : OptPoint → List ℕ
 pointNumbers (OptPoint.Present p) = 1 ∷ p .pattern ∷ offsetWidth (p .offset) ∷ offsetBits (p .offset) ∷ []
@@ -154,13 +175,17 @@ valueNumbers v = valueNumber v ∷ valueFirst v ∷ valueSecond v ∷ []
 unfoldable pub contentNumbers : Argument → List ℕ
 contentNumbers a = (nameNumbers (a .name) (a .unit) ++ pointNumbers (a .«fixed_point»)) ++ valueNumbers (a .value)
 
+-- ---- from place 23 on, three: why the name, the unit and the value ended
+unfoldable pub argumentEnds : Argument → List ℕ
+argumentEnds a = textEnd (a .name) ∷ textEnd (a .unit) ∷ valueEnd (a .value) ∷ []
+
 -- ---- the cursor behind the argument in front: where the next stands, how many are left (of signals: which word is next), big-endian or not
 unfoldable pub argumentNumbers : ℕ → ℕ → Bool → Argument → List ℕ
-argumentNumbers at left big a = ((at ∷ left ∷ oneIf big ∷ []) ++ typeNumbers a) ++ contentNumbers a
+argumentNumbers at left big a = (((at ∷ left ∷ oneIf big ∷ []) ++ typeNumbers a) ++ contentNumbers a) ++ argumentEnds a
 
 -- how many numbers there are, and what is left in a slice: nothing is written into one that is too short
 abbrev pub argumentSize : ℕ
-argumentSize = 23
+argumentSize = 26
 
 unfoldable pub argumentLaid : List ℕ → ℕ → ℕ → Bool → Argument → List ℕ
 argumentLaid T at left big a = pick (leb argumentSize (length T)) (over T 0 (argumentNumbers at left big a)) T

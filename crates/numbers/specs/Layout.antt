@@ -1,5 +1,6 @@
 -- The numbers of a message, in the order in which a host finds them in the slice that it lends. A place is counted from 0. What is absent has
--- 0 for its flag and for its values. An identifier or a run of bytes is its place in the bytes of the message and its length.
+-- 0 for its flag and for its values. An identifier or a run of bytes is its place in the bytes of the message and its length; why an identifier ended stands
+-- behind everything else.
 use Prim.Native.Nat.{ℕ}
 use mathlib.Core.Bool.{Bool, true, false}
 use mathlib.Core.List.{List, [], _∷_, _++_}
@@ -9,7 +10,8 @@ use Rattle.wire.specs.Parser.{pick}
 use Rattle.table.specs.Over.{over}
 use Rattle.headertype.specs.declared.Endianness.{Endianness}
 use Rattle.headertype.specs.declared.OptNum.{OptNum}
-use Rattle.headertype.specs.declared.OptRange.{OptRange}
+use Rattle.wire.specs.declared.Ended.{Ended}
+use Rattle.headertype.specs.declared.OptText.{OptText}
 use Rattle.headertype.specs.declared.StandardHeader.{StandardHeader}
 -- the type and the subtype of a message are the numbers that its message info had: messageinfo, specs/Kept.antt
 use Rattle.messageinfo.specs.Kept.{controlNumber, typeNumber, subtypeNumber}
@@ -29,9 +31,9 @@ orderNumber Endianness.Little = 0
 orderNumber Endianness.Big = 1
 
 -- ---- present or not, start, length; present or not, the number
-unfoldable pub rangeNumbers : OptRange → List ℕ
-rangeNumbers (OptRange.Present r) = 1 ∷ r .start ∷ r .len ∷ []
-rangeNumbers OptRange.Absent = 0 ∷ 0 ∷ 0 ∷ []
+unfoldable pub textNumbers : OptText → List ℕ
+textNumbers (OptText.Present t) = 1 ∷ t .place .start ∷ t .place .len ∷ []
+textNumbers OptText.Absent = 0 ∷ 0 ∷ 0 ∷ []
 
 unfoldable pub numNumbers : OptNum → List ℕ
 numNumbers (OptNum.Present n) = 1 ∷ n ∷ []
@@ -40,7 +42,7 @@ numNumbers OptNum.Absent = 0 ∷ 0 ∷ []
 -- ---- from place 2 on, six: present or not, seconds, microseconds, ECU id, bytes skipped before the pattern
 unfoldable pub storageNumbers : OptStored → List ℕ
 storageNumbers (OptStored.Present x) =
-    1 ∷ x .header .timestamp .seconds ∷ x .header .timestamp .microseconds ∷ x .header .«ecu_id» .start ∷ x .header .«ecu_id» .len ∷ x .skipped ∷ []
+    1 ∷ x .header .timestamp .seconds ∷ x .header .timestamp .microseconds ∷ x .header .«ecu_id» .place .start ∷ x .header .«ecu_id» .place .len ∷ x .skipped ∷ []
 storageNumbers OptStored.Absent = 0 ∷ 0 ∷ 0 ∷ 0 ∷ 0 ∷ 0 ∷ []
 
 -- ---- from place 8 on, eleven: version, big-endian or not, extended header or not, counter; ECU id; session id; timestamp
@@ -48,7 +50,7 @@ unfoldable pub frontNumbers : StandardHeader → List ℕ
 frontNumbers h = h .version ∷ orderNumber (h .endianness) ∷ oneIf (h .«has_extended_header») ∷ h .«message_counter» ∷ []
 
 unfoldable pub standardNumbers : StandardHeader → List ℕ
-standardNumbers h = ((frontNumbers h ++ rangeNumbers (h .«ecu_id»)) ++ numNumbers (h .«session_id»)) ++ numNumbers (h .timestamp)
+standardNumbers h = ((frontNumbers h ++ textNumbers (h .«ecu_id»)) ++ numNumbers (h .«session_id»)) ++ numNumbers (h .timestamp)
 
 -- ---- from place 19 on, nine: present or not, verbose or not, argument count, type, subtype, application id, context id
 unfoldable pub extendedNumbers : OptExtended → List ℕ
@@ -58,10 +60,10 @@ extendedNumbers (OptExtended.Present x) =
     ∷ x .«argument_count»
     ∷ typeNumber (x .«message_type»)
     ∷ subtypeNumber (x .«message_type»)
-    ∷ x .«application_id» .start
-    ∷ x .«application_id» .len
-    ∷ x .«context_id» .start
-    ∷ x .«context_id» .len
+    ∷ x .«application_id» .place .start
+    ∷ x .«application_id» .place .len
+    ∷ x .«context_id» .place .start
+    ∷ x .«context_id» .place .len
     ∷ []
 extendedNumbers OptExtended.Absent = 0 ∷ 0 ∷ 0 ∷ 0 ∷ 0 ∷ 0 ∷ 0 ∷ 0 ∷ 0 ∷ []
 
@@ -73,12 +75,40 @@ payloadNumbers (PayloadContent.NonVerbose id r) = 1 ∷ id ∷ r .start ∷ r .l
 payloadNumbers (PayloadContent.ControlMsg t r) = 2 ∷ controlNumber t ∷ r .start ∷ r .len ∷ 0 ∷ []
 payloadNumbers (PayloadContent.NetworkTrace c) = 3 ∷ 0 ∷ c .at ∷ c .left ∷ oneIf (c .big) ∷ []
 
+-- ---- why a text ended: 1 at a zero byte, 2 at its size, 3 at bytes that are no UTF-8; 0 where there is no text
+abbrev pub endedNumber : Ended → ℕ
+endedNumber Ended.Zero = 1
+endedNumber Ended.Size = 2
+endedNumber Ended.Invalid = 3
+
+abbrev pub textEnd : OptText → ℕ
+textEnd (OptText.Present t) = endedNumber (t .ended)
+textEnd OptText.Absent = 0
+
+abbrev pub storedEnd : OptStored → ℕ
+storedEnd (OptStored.Present x) = endedNumber (x .header .«ecu_id» .ended)
+storedEnd OptStored.Absent = 0
+
+abbrev pub applicationEnd : OptExtended → ℕ
+applicationEnd (OptExtended.Present x) = endedNumber (x .«application_id» .ended)
+applicationEnd OptExtended.Absent = 0
+
+abbrev pub contextEnd : OptExtended → ℕ
+contextEnd (OptExtended.Present x) = endedNumber (x .«context_id» .ended)
+contextEnd OptExtended.Absent = 0
+
+-- ---- from place 33 on, four: the storage header's ECU id, the standard header's, application id, context id
+unfoldable pub endNumbers : OptStored → StandardHeader → OptExtended → List ℕ
+endNumbers o h x = storedEnd o ∷ textEnd (h .«ecu_id») ∷ applicationEnd x ∷ contextEnd x ∷ []
+
 -- ---- an item: 0 and the payload length in front
 unfoldable pub leadNumbers : OptStored → StandardHeader → List ℕ
 leadNumbers o h = ((0 ∷ h .«payload_length» ∷ []) ++ storageNumbers o) ++ standardNumbers h
 
 unfoldable pub itemNumbers : Message → List ℕ
-itemNumbers m = (leadNumbers (m .«storage_header») (m .header) ++ extendedNumbers (m .«extended_header»)) ++ payloadNumbers (m .payload)
+itemNumbers m =
+    ((leadNumbers (m .«storage_header») (m .header) ++ extendedNumbers (m .«extended_header»)) ++ payloadNumbers (m .payload))
+    ++ endNumbers (m .«storage_header») (m .header) (m .«extended_header»)
 
 -- a message that was filtered out: 1 and the payload length, and no more
 unfoldable pub messageNumbers : ParsedMessage → List ℕ
@@ -87,7 +117,7 @@ messageNumbers (ParsedMessage.FilteredOut n) = 1 ∷ n ∷ []
 
 -- how many numbers there may be, and what is left in a slice: nothing is written into one that is too short for any message
 abbrev pub messageSize : ℕ
-messageSize = 33
+messageSize = 37
 
 unfoldable pub messageLaid : List ℕ → ParsedMessage → List ℕ
 messageLaid T p = pick (leb messageSize (length T)) (over T 0 (messageNumbers p)) T

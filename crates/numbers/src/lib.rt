@@ -8,16 +8,16 @@ ghost use lib.ListN.{length, getD};
 ghost use lib.Ieee.{binary32, binary64, toBits};
 ghost use Rattle.table.specs.Over.{over};
 ghost use Rattle.wire.specs.Number.{numberOf};
-ghost use Rattle.strings.specs.Text.{letter, textOf};
+ghost use Rattle.strings.specs.Text.{letter, endedText};
 ghost use Rattle.headertype.specs.HeaderType.{allHeaders};
 ghost use Rattle.outline.specs.There.{behind, idIf, numberIf, storedAt, standardAt, extendedPlace, extendedIf};
 ghost use Rattle.messageinfo.specs.Kept.{applicationNumber, networkNumber, controlNumber, typeNumber, subtypeNumber};
 ghost use Rattle.messageinfo.specs.Level.{number};
 ghost use Rattle.parse.specs.Message.{itemOf};
 ghost use Rattle.parse.specs.declared.ParsedMessage.{ParsedMessage};
-ghost use Rattle.numbers.specs.Layout.{oneIf, orderNumber, rangeNumbers, numNumbers, storageNumbers, frontNumbers, standardNumbers, extendedNumbers, payloadNumbers, leadNumbers, messageLaid};
+ghost use Rattle.numbers.specs.Layout.{oneIf, orderNumber, textNumbers, numNumbers, storageNumbers, frontNumbers, standardNumbers, extendedNumbers, payloadNumbers, endedNumber, textEnd, storedEnd, applicationEnd, contextEnd, endNumbers, leadNumbers, messageLaid};
 ghost use Rattle.numbers.specs.Outlined.{outlinedLaid};
-ghost use Rattle.numbers.specs.Arguments.{signedBits, lengthBits, widthBits, kindNumber, kindBits, codingNumber, valueNumber, valueFirst, valueSecond, offsetWidth, offsetBits, kindNumbers, codingNumbers, pointNumbers, valueNumbers, typeNumbers, nameNumbers, contentNumbers, argumentNumbers, argumentLaid};
+ghost use Rattle.numbers.specs.Arguments.{signedBits, lengthBits, widthBits, kindNumber, kindBits, codingNumber, valueNumber, valueFirst, valueSecond, valueEnd, offsetWidth, offsetBits, kindNumbers, codingNumbers, pointNumbers, valueNumbers, typeNumbers, nameNumbers, contentNumbers, argumentEnds, argumentNumbers, argumentLaid};
 ghost use Rattle.numbers.specs.Raw.{rawLaid};
 use cursor::RawCursor;
 use dlt::Argument;
@@ -32,7 +32,7 @@ use dlt::Value;
 use filtering::OptExtended;
 use headertype::Endianness;
 use headertype::OptNum;
-use headertype::OptRange;
+use headertype::OptText;
 use headertype::StandardHeader;
 use messageinfo::ApplicationTraceType;
 use messageinfo::ControlType;
@@ -46,8 +46,10 @@ use payload::PayloadContent;
 use reals::Real32;
 use reals::Real64;
 use storage::OptStored;
+use wire::Ended;
 use wire::Range;
-use wire::RangeAns;
+use wire::Text;
+use wire::TextAns;
 use wire::U32Ans;
 
 // ---- some numbers in a row, from place `at` on
@@ -222,15 +224,81 @@ fn subtype_number(t: MessageType) -> u64
     }
 }
 
-// ---- the groups of a message's numbers, each at its place
+// Why a text ended.
+fn ended_number(e: Ended) -> u64
+    ensures { λ r. ⌜ r ≡ endedNumber e ⌝ }
+{
+    match e {
+        Ended::Zero => 1,
+        Ended::Size => 2,
+        Ended::Invalid => 3,
+    }
+}
 
-fn put_range(out: &mut [u64], at: usize, o: OptRange)
-    requires { ⌜ at + 3 ≤ length (now out) ⌝ }
-    ensures { λ _. ⌜ now (out .exit) ≡ over (now (out .entry)) at (rangeNumbers o) ⌝ }
+fn text_end(o: OptText) -> u64
+    ensures { λ r. ⌜ r ≡ textEnd o ⌝ }
 {
     match o {
-        OptRange::Present(r) => put3(out, at, 1, r.start as u64, r.len as u64),
-        OptRange::Absent => put3(out, at, 0, 0, 0),
+        OptText::Present(t) => {
+            let why = t.ended;
+            ended_number(why)
+        }
+        OptText::Absent => 0,
+    }
+}
+
+fn stored_end(o: OptStored) -> u64
+    ensures { λ r. ⌜ r ≡ storedEnd o ⌝ }
+{
+    match o {
+        OptStored::Present(x) => {
+            let header = x.header;
+            let id = header.ecu_id;
+            let why = id.ended;
+            ended_number(why)
+        }
+        OptStored::Absent => 0,
+    }
+}
+
+fn application_end(o: OptExtended) -> u64
+    ensures { λ r. ⌜ r ≡ applicationEnd o ⌝ }
+{
+    match o {
+        OptExtended::Present(x) => {
+            let id = x.application_id;
+            let why = id.ended;
+            ended_number(why)
+        }
+        OptExtended::Absent => 0,
+    }
+}
+
+fn context_end(o: OptExtended) -> u64
+    ensures { λ r. ⌜ r ≡ contextEnd o ⌝ }
+{
+    match o {
+        OptExtended::Present(x) => {
+            let id = x.context_id;
+            let why = id.ended;
+            ended_number(why)
+        }
+        OptExtended::Absent => 0,
+    }
+}
+
+// ---- the groups of a message's numbers, each at its place
+
+fn put_text(out: &mut [u64], at: usize, o: OptText)
+    requires { ⌜ at + 3 ≤ length (now out) ⌝ }
+    ensures { λ _. ⌜ now (out .exit) ≡ over (now (out .entry)) at (textNumbers o) ⌝ }
+{
+    match o {
+        OptText::Present(t) => {
+            let place = t.place;
+            put3(out, at, 1, place.start as u64, place.len as u64)
+        }
+        OptText::Absent => put3(out, at, 0, 0, 0),
     }
 }
 
@@ -245,14 +313,14 @@ fn put_num(out: &mut [u64], at: usize, o: OptNum)
 }
 
 fn put_storage(out: &mut [u64], o: OptStored)
-    requires { ⌜ 33 ≤ length (now out) ⌝ }
+    requires { ⌜ 37 ≤ length (now out) ⌝ }
     ensures { λ _. ⌜ now (out .exit) ≡ over (now (out .entry)) 2 (storageNumbers o) ⌝ }
 {
     match o {
         OptStored::Present(x) => {
             let h = x.header;
             let time = h.timestamp;
-            let ecu = h.ecu_id;
+            let ecu = h.ecu_id.place;
             put6(
                 out,
                 2,
@@ -270,7 +338,7 @@ fn put_storage(out: &mut [u64], o: OptStored)
 
 // The fields of the standard header that are always there.
 fn put_front(out: &mut [u64], h: StandardHeader)
-    requires { ⌜ 33 ≤ length (now out) ⌝ }
+    requires { ⌜ 37 ≤ length (now out) ⌝ }
     ensures { λ _. ⌜ now (out .exit) ≡ over (now (out .entry)) 8 (frontNumbers h) ⌝ }
 {
     let endianness = h.endianness;
@@ -287,20 +355,20 @@ fn put_front(out: &mut [u64], h: StandardHeader)
 }
 
 fn put_standard(out: &mut [u64], h: StandardHeader)
-    requires { ⌜ 33 ≤ length (now out) ⌝ }
+    requires { ⌜ 37 ≤ length (now out) ⌝ }
     ensures { λ _. ⌜ now (out .exit) ≡ over (now (out .entry)) 8 (standardNumbers h) ⌝ }
 {
     let ecu = h.ecu_id;
     let session = h.session_id;
     let time = h.timestamp;
     put_front(out, h);
-    put_range(out, 12, ecu);
+    put_text(out, 12, ecu);
     put_num(out, 15, session);
     put_num(out, 17, time);
 }
 
 fn put_extended(out: &mut [u64], o: OptExtended)
-    requires { ⌜ 33 ≤ length (now out) ⌝ }
+    requires { ⌜ 37 ≤ length (now out) ⌝ }
     ensures { λ _. ⌜ now (out .exit) ≡ over (now (out .entry)) 19 (extendedNumbers o) ⌝ }
 {
     match o {
@@ -309,8 +377,8 @@ fn put_extended(out: &mut [u64], o: OptExtended)
             let its_type = x.message_type;
             let kind = type_number(its_type);
             let sub = subtype_number(its_type);
-            let app = x.application_id;
-            let context = x.context_id;
+            let app = x.application_id.place;
+            let context = x.context_id.place;
             put9(
                 out,
                 19,
@@ -330,7 +398,7 @@ fn put_extended(out: &mut [u64], o: OptExtended)
 }
 
 fn put_payload(out: &mut [u64], p: PayloadContent)
-    requires { ⌜ 33 ≤ length (now out) ⌝ }
+    requires { ⌜ 37 ≤ length (now out) ⌝ }
     ensures { λ _. ⌜ now (out .exit) ≡ over (now (out .entry)) 28 (payloadNumbers p) ⌝ }
 {
     match p {
@@ -354,7 +422,7 @@ fn put_payload(out: &mut [u64], p: PayloadContent)
 
 // What stands before the extended header's numbers: an item's 0, the payload length, storage and standard header.
 fn put_lead(out: &mut [u64], stored: OptStored, h: StandardHeader)
-    requires { ⌜ 33 ≤ length (now out) ⌝ }
+    requires { ⌜ 37 ≤ length (now out) ⌝ }
     ensures { λ _. ⌜ now (out .exit) ≡ over (now (out .entry)) 0 (leadNumbers stored h) ⌝ }
 {
     put2(out, 0, 0, h.payload_length as u64);
@@ -362,21 +430,44 @@ fn put_lead(out: &mut [u64], stored: OptStored, h: StandardHeader)
     put_standard(out, h);
 }
 
+// Why each of the four identifiers ended.
+fn put_ends(out: &mut [u64], stored: OptStored, h: StandardHeader, extended: OptExtended)
+    requires { ⌜ 37 ≤ length (now out) ⌝ }
+    ensures { λ _. ⌜ now (out .exit) ≡ over (now (out .entry)) 33 (endNumbers stored h extended) ⌝ }
+{
+    let ecu = h.ecu_id;
+    put4(
+        out,
+        33,
+        stored_end(stored),
+        text_end(ecu),
+        application_end(extended),
+        context_end(extended),
+    );
+}
+
 // An item, of its headers and its payload. A slice that is too short is left as it is.
 pub fn put_item(out: &mut [u64], h: Headers, content: PayloadContent)
     ensures { λ _. ⌜ now (out .exit) ≡ messageLaid (now (out .entry)) (itemOf h content) ⌝ }
 {
-    if 33 <= out.len() {
+    if 37 <= out.len() {
         let stored = h.storage_header;
         let header = h.header;
         let extended = h.extended_header;
         put_lead(out, stored, header);
         put_extended(out, extended);
         put_payload(out, content);
+        put_ends(out, stored, header, extended);
     }
 }
 
 // ---- the same groups straight from the bytes, of a message that was told at a glance
+
+// Why two identifiers ended, as numbers.
+struct TwoEnds {
+    first: u64,
+    second: u64,
+}
 
 // The byte at a place.
 fn byte_at(s: &[u8], at: usize) -> u8
@@ -409,26 +500,32 @@ fn letter_at(s: &[u8], at: usize) -> bool
 }
 
 // The identifier at a place, whatever its bytes are.
-fn any_id_at(s: &[u8], at: usize) -> Range
+fn any_id_at(s: &[u8], at: usize) -> Text
     requires { ⌜ at + 4 ≤ length (now s) ⌝ }
-    ensures { λ r. ⌜ r ≡ textOf 4 (now (s .entry)) at ⌝ }
+    ensures { λ r. ⌜ r ≡ endedText 4 (now (s .entry)) at ⌝ }
 {
     match strings::identifier(s, at) {
-        RangeAns::Done(id) => id.v,
-        RangeAns::Need(_) => Range { start: at, len: 0 },
+        TextAns::Done(id) => id.v,
+        TextAns::Need(_) => Text {
+            place: Range { start: at, len: 0 },
+            ended: Ended::Size,
+        },
     }
 }
 
 // The same. Most are four letters.
-fn id_at(s: &[u8], at: usize) -> Range
+fn id_at(s: &[u8], at: usize) -> Text
     requires { ⌜ at + 4 ≤ length (now s) ⌝ }
-    ensures { λ r. ⌜ r ≡ textOf 4 (now (s .entry)) at ⌝ }
+    ensures { λ r. ⌜ r ≡ endedText 4 (now (s .entry)) at ⌝ }
 {
     if letter_at(s, at) {
         if letter_at(s, at + 1) {
             if letter_at(s, at + 2) {
                 if letter_at(s, at + 3) {
-                    return Range { start: at, len: 4 };
+                    return Text {
+                        place: Range { start: at, len: 4 },
+                        ended: Ended::Size,
+                    };
                 }
             }
         }
@@ -452,15 +549,20 @@ fn payload_length(typ: u8, declared: u16) -> u16
     if all <= declared { declared - all } else { 0 }
 }
 
-fn put_range_if(out: &mut [u64], n: usize, s: &[u8], at: usize, present: bool)
+// The answer of each group that has identifiers is why they ended.
+fn put_text_if(out: &mut [u64], n: usize, s: &[u8], at: usize, present: bool) -> u64
     requires { ⌜ (n + 3 ≤ length (now out)) × (at + 4 ≤ length (now s)) ⌝ }
-    ensures { λ _. ⌜ now (out .exit) ≡ over (now (out .entry)) n (rangeNumbers (idIf present (now (s .entry)) at)) ⌝ }
+    ensures { λ r. ⌜ (now (out .exit) ≡ over (now (out .entry)) n (textNumbers (idIf present (now (s .entry)) at))) × (r ≡ textEnd (idIf present (now (s .entry)) at)) ⌝ }
 {
     if present {
         let id = id_at(s, at);
-        put3(out, n, 1, id.start as u64, id.len as u64)
+        let place = id.place;
+        let why = id.ended;
+        put3(out, n, 1, place.start as u64, place.len as u64);
+        ended_number(why)
     } else {
-        put3(out, n, 0, 0, 0)
+        put3(out, n, 0, 0, 0);
+        0
     }
 }
 
@@ -476,13 +578,15 @@ fn put_num_if(out: &mut [u64], n: usize, s: &[u8], at: usize, present: bool)
     }
 }
 
-fn put_stored_at(out: &mut [u64], s: &[u8], place: usize)
-    requires { ⌜ (33 ≤ length (now out)) × (place + 16 ≤ length (now s)) ⌝ }
-    ensures { λ _. ⌜ now (out .exit) ≡ over (now (out .entry)) 2 (storageNumbers (storedAt (now (s .entry)) place)) ⌝ }
+fn put_stored_at(out: &mut [u64], s: &[u8], place: usize) -> u64
+    requires { ⌜ (37 ≤ length (now out)) × (place + 16 ≤ length (now s)) ⌝ }
+    ensures { λ r. ⌜ (now (out .exit) ≡ over (now (out .entry)) 2 (storageNumbers (storedAt (now (s .entry)) place))) × (r ≡ storedEnd (storedAt (now (s .entry)) place)) ⌝ }
 {
     let seconds = word_at(s, place + 4, false);
     let microseconds = word_at(s, place + 8, false);
-    let ecu = id_at(s, place + 12);
+    let id = id_at(s, place + 12);
+    let ecu = id.place;
+    let why = id.ended;
     put6(
         out,
         2,
@@ -493,10 +597,11 @@ fn put_stored_at(out: &mut [u64], s: &[u8], place: usize)
         ecu.len as u64,
         place as u64,
     );
+    ended_number(why)
 }
 
 fn put_front_at(out: &mut [u64], s: &[u8], at: usize, typ: u8, declared: u16)
-    requires { ⌜ (33 ≤ length (now out)) × (at + 16 ≤ length (now s)) ⌝ }
+    requires { ⌜ (37 ≤ length (now out)) × (at + 16 ≤ length (now s)) ⌝ }
     ensures { λ _. ⌜ now (out .exit) ≡ over (now (out .entry)) 8 (frontNumbers (standardAt typ declared (now (s .entry)) at)) ⌝ }
 {
     let counter = byte_at(s, at + 1);
@@ -510,16 +615,17 @@ fn put_front_at(out: &mut [u64], s: &[u8], at: usize, typ: u8, declared: u16)
     );
 }
 
-fn put_standard_at(out: &mut [u64], s: &[u8], at: usize, typ: u8, declared: u16)
-    requires { ⌜ (33 ≤ length (now out)) × (at + 16 ≤ length (now s)) ⌝ }
-    ensures { λ _. ⌜ now (out .exit) ≡ over (now (out .entry)) 8 (standardNumbers (standardAt typ declared (now (s .entry)) at)) ⌝ }
+fn put_standard_at(out: &mut [u64], s: &[u8], at: usize, typ: u8, declared: u16) -> u64
+    requires { ⌜ (37 ≤ length (now out)) × (at + 16 ≤ length (now s)) ⌝ }
+    ensures { λ r. ⌜ (now (out .exit) ≡ over (now (out .entry)) 8 (standardNumbers (standardAt typ declared (now (s .entry)) at))) × (r ≡ textEnd (standardAt typ declared (now (s .entry)) at .«ecu_id»)) ⌝ }
 {
     let session = behind_if(at + 4, typ / 4 % 2 == 1);
     let time = behind_if(session, typ / 8 % 2 == 1);
     put_front_at(out, s, at, typ, declared);
-    put_range_if(out, 12, s, at + 4, typ / 4 % 2 == 1);
+    let ecu_end = put_text_if(out, 12, s, at + 4, typ / 4 % 2 == 1);
     put_num_if(out, 15, s, session, typ / 8 % 2 == 1);
     put_num_if(out, 17, s, time, typ / 16 % 2 == 1);
+    ecu_end
 }
 
 // Where the extended header stands, if there is one, behind a standard header.
@@ -532,15 +638,19 @@ fn extended_place(typ: u8, at: usize) -> usize
     behind_if(time, typ / 16 % 2 == 1)
 }
 
-fn put_extended_at(out: &mut [u64], s: &[u8], at: usize, present: bool)
-    requires { ⌜ (33 ≤ length (now out)) × (at + 10 ≤ length (now s)) ⌝ }
-    ensures { λ _. ⌜ now (out .exit) ≡ over (now (out .entry)) 19 (extendedNumbers (extendedIf present (now (s .entry)) at)) ⌝ }
+fn put_extended_at(out: &mut [u64], s: &[u8], at: usize, present: bool) -> TwoEnds
+    requires { ⌜ (37 ≤ length (now out)) × (at + 10 ≤ length (now s)) ⌝ }
+    ensures { λ r. ⌜ (now (out .exit) ≡ over (now (out .entry)) 19 (extendedNumbers (extendedIf present (now (s .entry)) at))) × (r .first ≡ applicationEnd (extendedIf present (now (s .entry)) at)) × (r .second ≡ contextEnd (extendedIf present (now (s .entry)) at)) ⌝ }
 {
     if present {
         let info = byte_at(s, at);
         let count = byte_at(s, at + 1);
-        let app = id_at(s, at + 2);
-        let context = id_at(s, at + 6);
+        let app_id = id_at(s, at + 2);
+        let app = app_id.place;
+        let app_why = app_id.ended;
+        let context_id = id_at(s, at + 6);
+        let context = context_id.place;
+        let context_why = context_id.ended;
         put9(
             out,
             19,
@@ -554,19 +664,28 @@ fn put_extended_at(out: &mut [u64], s: &[u8], at: usize, present: bool)
             context.start as u64,
             context.len as u64,
         );
+        TwoEnds {
+            first: ended_number(app_why),
+            second: ended_number(context_why),
+        }
     } else {
         put9(out, 19, 0, 0, 0, 0, 0, 0, 0, 0, 0);
+        TwoEnds {
+            first: 0,
+            second: 0,
+        }
     }
 }
 
-fn put_lead_at(out: &mut [u64], s: &[u8], o: Outline)
-    requires { ⌜ (33 ≤ length (now out)) × (o .place + 42 ≤ length (now s)) ⌝ }
-    ensures { λ _. ⌜ now (out .exit) ≡ over (now (out .entry)) 0 (leadNumbers (storedAt (now (s .entry)) (o .place)) (standardAt (o .«header_type») (o .length) (now (s .entry)) (o .place + 16))) ⌝ }
+fn put_lead_at(out: &mut [u64], s: &[u8], o: Outline) -> TwoEnds
+    requires { ⌜ (37 ≤ length (now out)) × (o .place + 42 ≤ length (now s)) ⌝ }
+    ensures { λ r. ⌜ (now (out .exit) ≡ over (now (out .entry)) 0 (leadNumbers (storedAt (now (s .entry)) (o .place)) (standardAt (o .«header_type») (o .length) (now (s .entry)) (o .place + 16)))) × (r .first ≡ storedEnd (storedAt (now (s .entry)) (o .place))) × (r .second ≡ textEnd (standardAt (o .«header_type») (o .length) (now (s .entry)) (o .place + 16) .«ecu_id»)) ⌝ }
 {
     let n = payload_length(o.header_type, o.length);
     put2(out, 0, 0, n as u64);
-    put_stored_at(out, s, o.place);
-    put_standard_at(out, s, o.place + 16, o.header_type, o.length);
+    let first = put_stored_at(out, s, o.place);
+    let second = put_standard_at(out, s, o.place + 16, o.header_type, o.length);
+    TwoEnds { first, second }
 }
 
 // An item whose headers stand where an outline says. Where they don't all lie within the bytes, or the slice is too short, it is left as it is.
@@ -575,11 +694,12 @@ pub fn put_outlined(out: &mut [u64], s: &[u8], o: Outline, content: PayloadConte
 {
     let rest = wire::left(s, o.place);
     if 42 <= rest {
-        if 33 <= out.len() {
+        if 37 <= out.len() {
             let at = extended_place(o.header_type, o.place + 16);
-            put_lead_at(out, s, o);
-            put_extended_at(out, s, at, o.header_type / 1 % 2 == 1);
+            let ecus = put_lead_at(out, s, o);
+            let names = put_extended_at(out, s, at, o.header_type / 1 % 2 == 1);
             put_payload(out, content);
+            put4(out, 33, ecus.first, ecus.second, names.first, names.second);
         }
     }
 }
@@ -589,7 +709,7 @@ pub fn put_filtered(out: &mut [u64], n: u16)
     ensures { λ _. ⌜ now (out .exit) ≡ messageLaid (now (out .entry)) (ParsedMessage.FilteredOut n) ⌝ }
 {
     let room = out.len();
-    if 33 <= room {
+    if 37 <= room {
         put2(out, 0, 1, n as u64);
     }
 }
@@ -741,7 +861,7 @@ fn value_first(v: Value) -> u64
         Value::F64(x) => bits_of_f64(x),
         Value::F32NotANumber(pattern) => pattern as u64,
         Value::F64NotANumber(pattern) => pattern,
-        Value::StringVal(text) => text.start as u64,
+        Value::StringVal(text) => text.place.start as u64,
         Value::Raw(run) => run.start as u64,
     }
 }
@@ -765,8 +885,35 @@ fn value_second(v: Value) -> u64
         Value::F64(_) => 0,
         Value::F32NotANumber(_) => 0,
         Value::F64NotANumber(_) => 0,
-        Value::StringVal(text) => text.len as u64,
+        Value::StringVal(text) => text.place.len as u64,
         Value::Raw(run) => run.len as u64,
+    }
+}
+
+fn value_end(v: Value) -> u64
+    ensures { λ r. ⌜ r ≡ valueEnd v ⌝ }
+{
+    match v {
+        Value::Bool(_) => 0,
+        Value::U8(_) => 0,
+        Value::U16(_) => 0,
+        Value::U32(_) => 0,
+        Value::U64(_) => 0,
+        Value::U128 { high, low } => 0,
+        Value::I8(_) => 0,
+        Value::I16(_) => 0,
+        Value::I32(_) => 0,
+        Value::I64(_) => 0,
+        Value::I128 { high, low } => 0,
+        Value::F32(_) => 0,
+        Value::F64(_) => 0,
+        Value::F32NotANumber(_) => 0,
+        Value::F64NotANumber(_) => 0,
+        Value::StringVal(text) => {
+            let why = text.ended;
+            ended_number(why)
+        }
+        Value::Raw(_) => 0,
     }
 }
 
@@ -791,7 +938,7 @@ fn offset_bits(o: FixedPointValue) -> u64
 // ---- the groups of an argument's numbers, each at its place
 
 fn put_kind(out: &mut [u64], k: TypeInfoKind)
-    requires { ⌜ 23 ≤ length (now out) ⌝ }
+    requires { ⌜ 26 ≤ length (now out) ⌝ }
     ensures { λ _. ⌜ now (out .exit) ≡ over (now (out .entry)) 5 (kindNumbers k) ⌝ }
 {
     let kind = kind_number(k);
@@ -800,7 +947,7 @@ fn put_kind(out: &mut [u64], k: TypeInfoKind)
 }
 
 fn put_coding(out: &mut [u64], t: TypeInfo)
-    requires { ⌜ 23 ≤ length (now out) ⌝ }
+    requires { ⌜ 26 ≤ length (now out) ⌝ }
     ensures { λ _. ⌜ now (out .exit) ≡ over (now (out .entry)) 7 (codingNumbers t) ⌝ }
 {
     let its_coding = t.coding;
@@ -811,7 +958,7 @@ fn put_coding(out: &mut [u64], t: TypeInfo)
 }
 
 fn put_point(out: &mut [u64], o: OptPoint)
-    requires { ⌜ 23 ≤ length (now out) ⌝ }
+    requires { ⌜ 26 ≤ length (now out) ⌝ }
     ensures { λ _. ⌜ now (out .exit) ≡ over (now (out .entry)) 16 (pointNumbers o) ⌝ }
 {
     match o {
@@ -826,7 +973,7 @@ fn put_point(out: &mut [u64], o: OptPoint)
 }
 
 fn put_value(out: &mut [u64], v: Value)
-    requires { ⌜ 23 ≤ length (now out) ⌝ }
+    requires { ⌜ 26 ≤ length (now out) ⌝ }
     ensures { λ _. ⌜ now (out .exit) ≡ over (now (out .entry)) 20 (valueNumbers v) ⌝ }
 {
     let kind = value_number(v);
@@ -837,7 +984,7 @@ fn put_value(out: &mut [u64], v: Value)
 
 // Where an argument stands, and its type info.
 fn put_type(out: &mut [u64], a: Argument)
-    requires { ⌜ 23 ≤ length (now out) ⌝ }
+    requires { ⌜ 26 ≤ length (now out) ⌝ }
     ensures { λ _. ⌜ now (out .exit) ≡ over (now (out .entry)) 3 (typeNumbers a) ⌝ }
 {
     let info = a.type_info;
@@ -847,17 +994,17 @@ fn put_type(out: &mut [u64], a: Argument)
     put_coding(out, info);
 }
 
-fn put_names(out: &mut [u64], name: OptRange, unit: OptRange)
-    requires { ⌜ 23 ≤ length (now out) ⌝ }
+fn put_names(out: &mut [u64], name: OptText, unit: OptText)
+    requires { ⌜ 26 ≤ length (now out) ⌝ }
     ensures { λ _. ⌜ now (out .exit) ≡ over (now (out .entry)) 10 (nameNumbers name unit) ⌝ }
 {
-    put_range(out, 10, name);
-    put_range(out, 13, unit);
+    put_text(out, 10, name);
+    put_text(out, 13, unit);
 }
 
 // Its names, its fixed point and its value.
 fn put_content(out: &mut [u64], a: Argument)
-    requires { ⌜ 23 ≤ length (now out) ⌝ }
+    requires { ⌜ 26 ≤ length (now out) ⌝ }
     ensures { λ _. ⌜ now (out .exit) ≡ over (now (out .entry)) 10 (contentNumbers a) ⌝ }
 {
     let name = a.name;
@@ -869,21 +1016,33 @@ fn put_content(out: &mut [u64], a: Argument)
     put_value(out, value);
 }
 
+// Why its name, its unit and its value ended.
+fn put_argument_ends(out: &mut [u64], a: Argument)
+    requires { ⌜ 26 ≤ length (now out) ⌝ }
+    ensures { λ _. ⌜ now (out .exit) ≡ over (now (out .entry)) 23 (argumentEnds a) ⌝ }
+{
+    let name = a.name;
+    let unit = a.unit;
+    let value = a.value;
+    put3(out, 23, text_end(name), text_end(unit), value_end(value));
+}
+
 fn put_handed(out: &mut [u64], at: usize, left: usize, big: bool, a: Argument)
-    requires { ⌜ 23 ≤ length (now out) ⌝ }
+    requires { ⌜ 26 ≤ length (now out) ⌝ }
     ensures { λ _. ⌜ now (out .exit) ≡ over (now (out .entry)) 0 (argumentNumbers at left big a) ⌝ }
 {
     let order = flag(big);
     put3(out, 0, at as u64, left as u64, order);
     put_type(out, a);
     put_content(out, a);
+    put_argument_ends(out, a);
 }
 
 // The numbers of an argument and of the cursor behind it, from the first place on, if there are places for all.
 pub fn put_argument(out: &mut [u64], at: usize, left: usize, big: bool, a: Argument)
     ensures { λ _. ⌜ now (out .exit) ≡ argumentLaid (now (out .entry)) at left big a ⌝ }
 {
-    if 23 <= out.len() {
+    if 26 <= out.len() {
         put_handed(out, at, left, big, a);
     }
 }

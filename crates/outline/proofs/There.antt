@@ -15,14 +15,14 @@ use Rattle.wire.specs.Parser.{pick, ret, refuse, choose, here, lacking, _>>=_}
 use Rattle.wire.specs.Number.{numberOf, number}
 use Rattle.wire.specs.Run.{range, bytes}
 use Rattle.wire.proofs.Step.{step, then-done, then-hickup, fixed-done, asking-done, ret-is, here-is, refuse-is, choose-true, choose-false}
-use Rattle.strings.specs.Text.{textOf, textNeed, text, identified}
+use Rattle.strings.specs.Text.{endedText, textNeed, text, identified}
 use Rattle.mark.specs.First.{pattern, find}
 use Rattle.mark.specs.declared.Found.{Found}
 use Rattle.headertype.specs.Bits.{bit, flag, oneIf}
-use Rattle.headertype.specs.HeaderType.{bigBit, rangeBit, numBit, standardLength, allHeaders, overallLength}
+use Rattle.headertype.specs.HeaderType.{bigBit, textBit, numBit, standardLength, allHeaders, overallLength}
 use Rattle.headertype.specs.declared.Endianness.{Endianness}
 use Rattle.headertype.specs.declared.OptNum.{OptNum}
-use Rattle.headertype.specs.declared.OptRange.{OptRange}
+use Rattle.headertype.specs.declared.OptText.{OptText}
 use Rattle.headertype.specs.declared.StandardHeader.{StandardHeader}
 use Rattle.headertype.proofs.Again.{overall}
 use Rattle.headertype.proofs.Lengths.{one-bit}
@@ -52,14 +52,14 @@ module _ (s : List ℕ) (at : ℕ) where
   unfolding bytes
   bytes-there n h = fixed-done n (λ s at. range at n) s at (omega arith)
 
-  pub id-there : at + 4 ≤ length s → identified s at ≡ done (textOf 4 s at) (at + 4)
+  pub id-there : at + 4 ≤ length s → identified s at ≡ done (endedText 4 s at) (at + 4)
   unfolding identified text
-  id-there h = asking-done 4 (textNeed 4) (λ s at. done (textOf 4 s at) (at + 4)) s at (omega arith)
+  id-there h = asking-done 4 (textNeed 4) (λ s at. done (endedText 4 s at) (at + 4)) s at (omega arith)
 
   maybe-id : (t : Bool) → at + 4 ≤ length s → maybeId t s at ≡ done (idIf t s at) (behind t at)
   unfolding maybeId choose
   maybe-id true h = step identified _ s at (id-there h) (ret-is _ s (at + 4))
-  maybe-id false h = ret-is OptRange.Absent s at
+  maybe-id false h = ret-is OptText.Absent s at
 
   maybe-number : (t : Bool) → at + 4 ≤ length s → maybeNumber t s at ≡ done (numberIf t s at) (behind t at)
   unfolding maybeNumber choose
@@ -77,7 +77,7 @@ behind-most false at = omega arith
 
 -- ---- the standard header
 module _ (s : List ℕ) (at : ℕ) (there : at + 16 ≤ length s) where
-  fields-there : {A : Type 0} (type : ℕ) (k : OptRange → OptNum → OptNum → Parser A)
+  fields-there : {A : Type 0} (type : ℕ) (k : OptText → OptNum → OptNum → Parser A)
       → (maybeId (flag 4 type) >>= (λ ecu. maybeNumber (flag 8 type) >>= (λ session. maybeNumber (flag 16 type) >>= (λ time. k ecu session time)))) s (at + 4)
       ≡ k (ecuAt type s at) (sessionAt type s at) (timeAt type s at) s (extendedPlace type at)
   fields-there type k =
@@ -140,9 +140,9 @@ big-bit t = by (flag 2 t) ∙ one-bit 2 t
     by true = refl
     by false = refl
 
-range-bit : (b : Bool) (s : List ℕ) (at : ℕ) → rangeBit (idIf b s at) ≡ oneIf b
-range-bit true s at = refl
-range-bit false s at = refl
+text-bit : (b : Bool) (s : List ℕ) (at : ℕ) → textBit (idIf b s at) ≡ oneIf b
+text-bit true s at = refl
+text-bit false s at = refl
 
 num-bit : (b : Bool) (s : List ℕ) (at : ℕ) → numBit (numberIf b s at) ≡ oneIf b
 num-bit true s at = refl
@@ -151,7 +151,7 @@ num-bit false s at = refl
 pub declared-again : (t n : ℕ) (s : List ℕ) (at : ℕ) → t < 256 → allHeaders t ≤ n → overallLength (standardAt t n s at) ≡ n
 unfolding standardAt headerOf
 declared-again t n s at byte h =
-    overall (standardAt t n s at) t byte (one-bit 1 t) (big-bit t) (range-bit (flag 4 t) s _ ∙ one-bit 4 t) (num-bit (flag 8 t) s _ ∙ one-bit 8 t) (num-bit (flag 16 t) s _ ∙ one-bit 16 t) refl
+    overall (standardAt t n s at) t byte (one-bit 1 t) (big-bit t) (text-bit (flag 4 t) s _ ∙ one-bit 4 t) (num-bit (flag 8 t) s _ ∙ one-bit 8 t) (num-bit (flag 16 t) s _ ∙ one-bit 16 t) refl
     ∙ omega arith
 
 -- where all headers end

@@ -4,10 +4,10 @@ use mathlib.Core.Bool.{Bool, true, false}
 use mathlib.Core.List.{List}
 use Rattle.wire.specs.Parser.{pick}
 use Rattle.wire.specs.Number.{numberOf}
-use Rattle.strings.specs.Text.{textOf}
+use Rattle.strings.specs.Text.{endedText}
 use Rattle.headertype.specs.Bits.{flag}
 use Rattle.headertype.specs.declared.OptNum.{OptNum}
-use Rattle.headertype.specs.declared.OptRange.{OptRange}
+use Rattle.headertype.specs.declared.OptText.{OptText}
 use Rattle.headertype.specs.declared.StandardHeader.{StandardHeader}
 use Rattle.messageinfo.specs.declared.ExtendedHeader.{ExtendedHeader}
 use Rattle.headers.specs.Standard.{headerOf}
@@ -23,8 +23,8 @@ use Rattle.parse.specs.declared.Headers.{Headers}
 abbrev pub behind : Bool → ℕ → ℕ
 behind t at = pick t (at + 4) at
 
-abbrev pub idIf : Bool → List ℕ → ℕ → OptRange
-idIf t s at = pick t (OptRange.Present (textOf 4 s at)) OptRange.Absent
+abbrev pub idIf : Bool → List ℕ → ℕ → OptText
+idIf t s at = pick t (OptText.Present (endedText 4 s at)) OptText.Absent
 
 abbrev pub numberIf : Bool → List ℕ → ℕ → OptNum
 numberIf t s at = pick t (OptNum.Present (numberOf true 4 s at)) OptNum.Absent
@@ -48,7 +48,7 @@ timePlace type at = behind (flag 8 type) (sessionPlace type at)
 abbrev pub extendedPlace : ℕ → ℕ → ℕ
 extendedPlace type at = behind (flag 16 type) (timePlace type at)
 
-abbrev pub ecuAt : ℕ → List ℕ → ℕ → OptRange
+abbrev pub ecuAt : ℕ → List ℕ → ℕ → OptText
 ecuAt type s at = idIf (flag 4 type) s (at + 4)
 
 abbrev pub sessionAt : ℕ → List ℕ → ℕ → OptNum
@@ -62,14 +62,14 @@ standardAt type length s at = headerOf type (counterAt s at) length (ecuAt type 
 
 -- the extended header at a place, and if flagged
 unfoldable pub extendedAt : List ℕ → ℕ → ExtendedHeader
-extendedAt s at = extendedOf (numberOf true 1 s at) (numberOf true 1 s (at + 1)) (textOf 4 s (at + 2)) (textOf 4 s (at + 6))
+extendedAt s at = extendedOf (numberOf true 1 s at) (numberOf true 1 s (at + 1)) (endedText 4 s (at + 2)) (endedText 4 s (at + 6))
 
 abbrev pub extendedIf : Bool → List ℕ → ℕ → OptExtended
 extendedIf t s at = pick t (OptExtended.Present (extendedAt s at)) OptExtended.Absent
 
 -- the storage header whose pattern stands at a place
 unfoldable pub storedAt : List ℕ → ℕ → OptStored
-storedAt s i = storedOf i (numberOf false 4 s (i + 4)) (numberOf false 4 s (i + 8)) (textOf 4 s (i + 12))
+storedAt s i = storedOf i (numberOf false 4 s (i + 4)) (numberOf false 4 s (i + 8)) (endedText 4 s (i + 12))
 
 -- all of them, behind the pattern at i, by type byte and declared length
 unfoldable pub headersAt : List ℕ → Filter → List ℕ → ℕ → ℕ → ℕ → Headers

@@ -10,6 +10,7 @@ use Rattle.wire.specs.Answer.{Ans, Parser}
 use Rattle.wire.specs.Answer.Ans.{done, need, hickup, broken}
 use Rattle.wire.specs.Parser.{pick, refuse, lacking, _>>=_}
 use Rattle.wire.specs.Run.{range, bytes}
+use Rattle.wire.specs.declared.Ended.{Ended}
 use Rattle.strings.specs.Utf8.{validUpTo}
 use Rattle.mark.specs.First.{pattern, find}
 use Rattle.mark.specs.declared.Found.{Found}
@@ -294,7 +295,7 @@ module _ (all : List ℕ) (six : isOneOf 6 all ≡ true) (seven : isOneOf 7 all 
   unfolding utf8
   utf8-gives n = having-gives all n _ (record { gives = λ s at. by s at (leb n (validUpTo n s at)) })
     where
-      by : (s : List ℕ) (at : ℕ) (t : Bool) → Of all (pick t (done (Value.StringVal (range at n)) (at + n)) (hickup 6))
+      by : (s : List ℕ) (at : ℕ) (t : Bool) → Of all (pick t (done (Value.StringVal (record { place = range at n; ended = Ended.Size })) (at + n)) (hickup 6))
       by s at true = tt
       by s at false = six
 

@@ -44,7 +44,7 @@ fn by_bytes(line: &[u8], kind: Field, s: &[u8], out: &mut Out, at: usize) -> usi
 fn by_small_kind(line: &[u8], kind: Field, body: &mut [u8], out: &mut Out, at: usize) -> usize {
     let end = kind.end;
     if fields::is(line, kind, b"zts") {
-        return zts::answer(line, end, body, out, at);
+        return zts::answer(line, end, false, body, out, at);
     }
     if fields::is(line, kind, b"ti") {
         return ti::answer(line, end, out, at);
@@ -61,15 +61,41 @@ fn by_kind(line: &[u8], body: &mut [u8], words: &mut [u32], out: &mut Out, at: u
     let kind = fields::word_at(line, 0);
     let end = kind.end;
     if fields::is(line, kind, b"msg") {
-        return msg::answer(line, end, body, out, at);
+        return msg::answer(line, end, false, body, out, at);
     }
     if fields::is(line, kind, b"args") {
-        return args::answer(line, end, body, words, out, at);
+        return args::answer(line, end, false, body, words, out, at);
     }
     if fields::is(line, kind, b"index") {
         return indexed::answer(line, end, body, out, at);
     }
+    if fields::is(line, kind, b"why") {
+        return with_reasons(line, end, body, words, out, at);
+    }
     by_small_kind(line, kind, body, out, at)
+}
+
+// The answer line to a kind behind the word `why`: why each text ended is told too.
+fn with_reasons(
+    line: &[u8],
+    why_end: usize,
+    body: &mut [u8],
+    words: &mut [u32],
+    out: &mut Out,
+    at: usize,
+) -> usize {
+    let kind = fields::after(line, why_end);
+    let end = kind.end;
+    if fields::is(line, kind, b"msg") {
+        return msg::answer(line, end, true, body, out, at);
+    }
+    if fields::is(line, kind, b"args") {
+        return args::answer(line, end, true, body, words, out, at);
+    }
+    if fields::is(line, kind, b"zts") {
+        return zts::answer(line, end, true, body, out, at);
+    }
+    writer::bad_request(out, at)
 }
 
 // The answer line to a line. The end of a line that was too long is `dropped`: the line has its answer.

@@ -1,4 +1,4 @@
-// `args L|B WORDS BYTES`: arguments from signal data, construct_arguments.
+// `args L|B WORDS BYTES`: arguments from signal data, construct_arguments; behind `why` with why their texts ended.
 use crate::contents;
 use crate::digits;
 use crate::digits::Flag;
@@ -10,10 +10,11 @@ use signals::SignalCursor;
 use signals::SignalTurn;
 use signals::SignalTurnAns;
 
-// The answer to a request whose kind ends at `kind_end`. `words` is room for the type info words.
+// The answer to a request whose kind ends at `kind_end`, with reasons if `why`. `words` is room for the type info words.
 pub fn answer(
     line: &[u8],
     kind_end: usize,
+    why: bool,
     body: &mut [u8],
     words: &mut [u32],
     out: &mut Out,
@@ -34,26 +35,27 @@ pub fn answer(
         big,
         digits::first_words(words, k),
         digits::first(body, n),
+        why,
         out,
         at,
     )
 }
 
 // The answer for arguments in either byte order.
-fn by_order(big: Flag, infos: &[u32], s: &[u8], out: &mut Out, at: usize) -> usize {
+fn by_order(big: Flag, infos: &[u32], s: &[u8], why: bool, out: &mut Out, at: usize) -> usize {
     match big {
-        Flag::Yes => shown(true, infos, s, out, at),
-        Flag::No => shown(false, infos, s, out, at),
+        Flag::Yes => shown(true, infos, s, why, out, at),
+        Flag::No => shown(false, infos, s, why, out, at),
         Flag::Bad => writer::bad_request(out, at),
     }
 }
 
-fn shown(big: bool, words: &[u32], s: &[u8], out: &mut Out, at: usize) -> usize {
+fn shown(big: bool, words: &[u32], s: &[u8], why: bool, out: &mut Out, at: usize) -> usize {
     match signals::construct_arguments(big, words, s) {
         ConstructAns::Done(all) => {
             let used = writer::used(out, at, all.used);
             let gap = writer::byte(out, used, b' ');
-            every_signal(out, gap, words, s, big)
+            every_signal(out, gap, words, s, big, why)
         }
         ConstructAns::Hickup(reason) => writer::hickup(out, at, reason),
     }
@@ -68,7 +70,7 @@ fn following(list: SignalCursor, words: &[u32], s: &[u8]) -> SignalTurn {
 }
 
 // All arguments, one behind the other.
-fn every_signal(out: &mut Out, at: usize, words: &[u32], s: &[u8], big: bool) -> usize {
+fn every_signal(out: &mut Out, at: usize, words: &[u32], s: &[u8], big: bool, why: bool) -> usize {
     let mut done = at;
     let mut rest = SignalCursor {
         at: 0,
@@ -81,7 +83,7 @@ fn every_signal(out: &mut Out, at: usize, words: &[u32], s: &[u8], big: bool) ->
             SignalTurn::Item(item) => {
                 let one = item.argument;
                 let behind = item.rest;
-                done = contents::argument(out, done, s, one);
+                done = contents::argument(out, done, s, one, why);
                 rest = behind;
             }
             SignalTurn::End => {

@@ -20,11 +20,12 @@ pub fn payload(
     p: PayloadContent,
     m: &[u64],
     end: usize,
+    why: bool,
 ) -> usize {
     match p {
         PayloadContent::Verbose(list) => {
             let placed = span(out, at, b'V', list.at, end);
-            every_argument(out, placed, s, list)
+            every_argument(out, placed, s, list, why)
         }
         PayloadContent::NonVerbose(_, _) => pattern::fill(out, at, b"N(#)@", m, 29, s),
         PayloadContent::ControlMsg(_, _) => pattern::fill(out, at, b"C(#)@", m, 29, s),
@@ -43,18 +44,23 @@ fn span(out: &mut Out, at: usize, letter: u8, from: usize, to: usize) -> usize {
     writer::byte(out, ended, b')')
 }
 
-// `[FROM-TO KIND,CODING,VARINFO,TRACEINFO name=.TEXT unit=.TEXT fp=QQQQQQQQ,i32:N VALUE]`, of an argument that was read from `s`.
-pub fn argument(out: &mut Out, at: usize, s: &[u8], a: Argument) -> usize {
-    let mut numbers = [0u64; 23];
+// `[FROM-TO KIND,CODING,VARINFO,TRACEINFO name=.TEXT unit=.TEXT fp=QQQQQQQQ,i32:N VALUE]`, of an argument that was read from `s`; and `{NAME,UNIT,VALUE}`, why
+// its texts ended, if `why`.
+pub fn argument(out: &mut Out, at: usize, s: &[u8], a: Argument, why: bool) -> usize {
+    let mut numbers = [0u64; 26];
     numbers::put_argument(&mut numbers, 0, 0, false, a);
-    pattern::fill(
+    let done = pattern::fill(
         out,
         at,
         b"[#-# $,#,#,# name=? unit=? fp=^ *]",
         &numbers,
         3,
         s,
-    )
+    );
+    if why {
+        return pattern::fill(out, done, b"{:,:,:}", &numbers, 23, s);
+    }
+    done
 }
 
 // The cursor's next argument. A list that was read has no argument that cannot be read again: one would be its end.
@@ -67,7 +73,7 @@ fn following(list: Cursor, s: &[u8]) -> Turn {
 }
 
 // All arguments, one behind the other.
-fn every_argument(out: &mut Out, at: usize, s: &[u8], list: Cursor) -> usize {
+fn every_argument(out: &mut Out, at: usize, s: &[u8], list: Cursor, why: bool) -> usize {
     let mut done = at;
     let mut rest = list;
     let mut left = list.left;
@@ -76,7 +82,7 @@ fn every_argument(out: &mut Out, at: usize, s: &[u8], list: Cursor) -> usize {
             Turn::Item(item) => {
                 let one = item.argument;
                 let behind = item.rest;
-                done = argument(out, done, s, one);
+                done = argument(out, done, s, one, why);
                 rest = behind;
             }
             Turn::End => {

@@ -7,13 +7,17 @@ use crate::writer::Out;
 use parse::Headers;
 use parse::Message;
 
-// What stands behind `used`, of a message that was read from `s` and ends at `end`.
-pub fn message(out: &mut Out, at: usize, s: &[u8], m: Message, end: usize) -> usize {
-    let mut numbers = [0u64; 33];
+// What stands behind `used`, of a message that was read from `s` and ends at `end`; and why its texts ended, if `why`.
+pub fn message(out: &mut Out, at: usize, s: &[u8], m: Message, end: usize, why: bool) -> usize {
+    let mut numbers = [0u64; 37];
     let its_payload = m.payload;
     put(&mut numbers, m);
     let headed = headers(out, at, s, &numbers);
-    contents::payload(out, headed, s, its_payload, &numbers, end)
+    let done = contents::payload(out, headed, s, its_payload, &numbers, end, why);
+    if why {
+        return pattern::fill(out, done, b" ends=:,:,:,:", &numbers, 33, s);
+    }
+    done
 }
 
 fn put(numbers: &mut [u64], m: Message) {

@@ -1,4 +1,4 @@
-// `msg STORAGE FILTER BYTES`: one message, dlt_message.
+// `msg STORAGE FILTER BYTES`: one message, dlt_message; behind `why` with why its texts ended.
 use crate::digits;
 use crate::digits::Flag;
 use crate::fields;
@@ -9,8 +9,15 @@ use parse::GotParsed;
 use parse::MessageAns;
 use parse::ParsedMessage;
 
-// The answer to a request whose kind ends at `kind_end`.
-pub fn answer(line: &[u8], kind_end: usize, body: &mut [u8], out: &mut Out, at: usize) -> usize {
+// The answer to a request whose kind ends at `kind_end`, with reasons if `why`.
+pub fn answer(
+    line: &[u8],
+    kind_end: usize,
+    why: bool,
+    body: &mut [u8],
+    out: &mut Out,
+    at: usize,
+) -> usize {
     let mode = fields::after(line, kind_end);
     let chosen = fields::after(line, mode.end);
     let n = digits::last_bytes(line, chosen.end, body);
@@ -22,7 +29,7 @@ pub fn answer(line: &[u8], kind_end: usize, body: &mut [u8], out: &mut Out, at: 
         return writer::bad_request(out, at);
     }
     let with_storage_header = digits::storage(line, mode);
-    by_mode(body, n, k, with_storage_header, out, at)
+    by_mode(body, n, k, with_storage_header, why, out, at)
 }
 
 // The answer for a message with a storage header, or for one without. Its bytes are the first `n`, its filter's the `k` behind them.
@@ -31,22 +38,30 @@ fn by_mode(
     n: usize,
     k: usize,
     with_storage_header: Flag,
+    why: bool,
     out: &mut Out,
     at: usize,
 ) -> usize {
     let s = digits::first(body, n);
     let f = digits::behind(body, n, k);
     match with_storage_header {
-        Flag::Yes => shown(s, f, true, out, at),
-        Flag::No => shown(s, f, false, out, at),
+        Flag::Yes => shown(s, f, true, why, out, at),
+        Flag::No => shown(s, f, false, why, out, at),
         Flag::Bad => writer::bad_request(out, at),
     }
 }
 
-fn shown(s: &[u8], f: &[u8], with_storage_header: bool, out: &mut Out, at: usize) -> usize {
+fn shown(
+    s: &[u8],
+    f: &[u8],
+    with_storage_header: bool,
+    why: bool,
+    out: &mut Out,
+    at: usize,
+) -> usize {
     match parse::dlt_message(s, f, with_storage_header) {
         MessageAns::BadFilter => writer::byte(out, at, b'1'),
-        MessageAns::Done(got) => parsed(s, got, out, at),
+        MessageAns::Done(got) => parsed(s, got, why, out, at),
         MessageAns::Need(need) => writer::need(out, at, need),
         MessageAns::Hickup(reason) => writer::hickup(out, at, reason),
         MessageAns::Broken => writer::byte(out, at, b'4'),
@@ -54,13 +69,13 @@ fn shown(s: &[u8], f: &[u8], with_storage_header: bool, out: &mut Out, at: usize
 }
 
 // A message that was read, or that the filter drops.
-fn parsed(s: &[u8], got: GotParsed, out: &mut Out, at: usize) -> usize {
+fn parsed(s: &[u8], got: GotParsed, why: bool, out: &mut Out, at: usize) -> usize {
     let end = got.next;
     let v = got.v;
     match v {
         ParsedMessage::Item(m) => {
             let used = writer::labelled(out, at, b"0 item used=", end as u64);
-            message::message(out, used, s, m, end)
+            message::message(out, used, s, m, end, why)
         }
         ParsedMessage::FilteredOut(n) => {
             let used = writer::labelled(out, at, b"0 filtered used=", end as u64);

@@ -3,6 +3,7 @@
 //     #  a number                                        ~  nothing: passes one
 //     @  TEXT: start, length                             ?  `.TEXT` or `-`: flag, start, length
 //     %  a number or `-`: flag, number                   !  a byte order's letter: flag
+//     :  a reason's letter: why a text ended
 //     &  a message type: type, subtype                   $  a type info's kind: kind, bits
 //     ^  a fixed point or `-`: flag, pattern, bits, offset
 //     *  a value: which, first, second
@@ -23,7 +24,7 @@ fn nth(numbers: &[u64], place: usize, k: usize) -> u64 {
 // How many numbers a sign takes.
 fn takes(sign: u8) -> usize {
     match sign {
-        b'#' | b'~' | b'!' => 1,
+        b'#' | b'~' | b'!' | b':' => 1,
         b'@' | b'%' | b'&' | b'$' => 2,
         b'?' | b'*' => 3,
         b'^' => 4,
@@ -62,6 +63,7 @@ fn one(out: &mut Out, at: usize, sign: u8, numbers: &[u64], place: usize, s: &[u
         b'@' => writer::text(out, at, s, first as usize, second as usize),
         b'%' => maybe_number(out, at, first, second),
         b'!' => writer::byte(out, at, order(first)),
+        b':' => writer::byte(out, at, reason(first)),
         b'&' => message_type(out, at, first, second),
         b'$' => kind(out, at, first, second),
         _ => longer(out, at, sign, numbers, place, s),
@@ -99,6 +101,16 @@ fn maybe_text(out: &mut Out, at: usize, flag: u64, s: &[u8], start: usize, len: 
 // The letter of a byte order.
 fn order(big: u64) -> u8 {
     if big == 0 { b'L' } else { b'B' }
+}
+
+// The letter of a reason: a zero byte, the size, no UTF-8; `-` where there is no text.
+fn reason(ended: u64) -> u8 {
+    match ended {
+        1 => b'z',
+        2 => b's',
+        3 => b'u',
+        _ => b'-',
+    }
 }
 
 // `log:4`; a type that has no name is its number: `unk:5:4`.

@@ -10,7 +10,7 @@ use dlt::Decoded;
 use dlt::OptPoint;
 use dlt::TypeInfo;
 use dlt::Value;
-use headertype::OptRange;
+use headertype::OptText;
 
 // The answer to a request whose kind ends at `kind_end`.
 pub fn answer(line: &[u8], kind_end: usize, out: &mut Out, at: usize) -> usize {
@@ -28,7 +28,7 @@ pub fn answer(line: &[u8], kind_end: usize, out: &mut Out, at: usize) -> usize {
 fn shown(info: u32, out: &mut Out, at: usize) -> usize {
     match TypeInfo::try_from(info) {
         Decoded::Accepted(t) => {
-            let mut numbers = [0u64; 23];
+            let mut numbers = [0u64; 26];
             numbers::put_argument(&mut numbers, 0, 0, false, of_type(t));
             pattern::fill(out, at, b"0 $,#,#,#", &numbers, 5, b"")
         }
@@ -40,8 +40,8 @@ fn shown(info: u32, out: &mut Out, at: usize) -> usize {
 fn of_type(t: TypeInfo) -> Argument {
     Argument {
         type_info: t,
-        name: OptRange::Absent,
-        unit: OptRange::Absent,
+        name: OptText::Absent,
+        unit: OptText::Absent,
         fixed_point: OptPoint::Absent,
         value: Value::Bool(0),
         start: 0,

@@ -3,3 +3,4 @@ pub mod Words
 pub mod Row
 pub mod Determined
 pub mod Vectors
+pub mod AtItsSize

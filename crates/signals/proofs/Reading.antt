@@ -11,6 +11,7 @@ use Rattle.wire.specs.Answer.{Ans, Parser}
 use Rattle.wire.specs.Answer.Ans.{done, need, hickup}
 use Rattle.wire.specs.Parser.{_>>=_, refuse, choose}
 use Rattle.wire.specs.Run.{range}
+use Rattle.wire.specs.declared.Ended.{Ended}
 use Rattle.wire.proofs.Step.{told, then-done, then-hickup, having-done, having-need, choose-true, choose-false}
 use Rattle.wire.proofs.Reading.{by-done, by-need, by-hickup}
 use Rattle.strings.specs.Utf8.{validUpTo, least}
@@ -56,7 +57,7 @@ module _ (n : ℕ) (s : List ℕ) (at l : ℕ) (is-left : l ≡ length s - at) w
   valid-is : (v : ℕ) → v ≡ validUpTo (least n (length s - at)) s at → n ≤ l → v ≡ validUpTo n s at
   valid-is v e h = rw (le-leb n (length s - at) (omega arith)) at e
 
-  pub utf8-done : (v : ℕ) → v ≡ validUpTo (least n (length s - at)) s at → n ≤ l → n ≤ v → done (Value.StringVal (range at n)) (at + n) ≡ utf8 n s at
+  pub utf8-done : (v : ℕ) → v ≡ validUpTo (least n (length s - at)) s at → n ≤ l → n ≤ v → done (Value.StringVal (record { place = range at n; ended = Ended.Size })) (at + n) ≡ utf8 n s at
   unfolding utf8
   utf8-done v e h g =
       let k : n ≤ validUpTo n s at = rw (← valid-is v e h) g in

@@ -8,6 +8,7 @@ use Rattle.wire.specs.Answer.Ans.{done, need, hickup, broken}
 use Rattle.wire.specs.Parser.{ret, here, refuse, asking, having, fixed, _>>=_}
 use Rattle.wire.specs.Number.{number, numberOf, numeric}
 use Rattle.wire.specs.Run.{range, bytes}
+use Rattle.wire.specs.declared.Ended.{Ended}
 use Rattle.strings.specs.Utf8.{formed, among, sequence, upTo, validUpTo}
 use Rattle.dlt.specs.TypeInfoWord as word
 use Rattle.dlt.specs.TypeInfoWord.{typeLengthOf, floatWidthOf, kindBy, codingOf, typeInfoOf}
@@ -35,7 +36,7 @@ sum broken = other
 pub vectors :
     (sum (listed false (0x42 ∷ []) (0x34 ∷ 0x12 ∷ 0xFF ∷ []) 0) ≡ valued (Value.U16 4660 ∷ []) 2)
     × (sum (listed false (0x200 ∷ []) (2 ∷ 0 ∷ 0xC3 ∷ 0x28 ∷ []) 0) ≡ refused 6)
-    × (sum (listed false (0x200 ∷ []) (2 ∷ 0 ∷ 0x41 ∷ 0 ∷ []) 0) ≡ valued (Value.StringVal (range 2 2) ∷ []) 4)
+    × (sum (listed false (0x200 ∷ []) (2 ∷ 0 ∷ 0x41 ∷ 0 ∷ []) 0) ≡ valued (Value.StringVal (record { place = range 2 2; ended = Ended.Size }) ∷ []) 4)
     × (sum (listed false [] (1 ∷ []) 0) ≡ valued [] 0)
     × (sum (listed false (0x43 ∷ 0 ∷ []) (1 ∷ 2 ∷ 3 ∷ []) 0) ≡ refused 5)
     × (sum (listed false (0x43 ∷ 0 ∷ []) (1 ∷ 2 ∷ 3 ∷ 4 ∷ []) 0) ≡ refused 2)

@@ -7,8 +7,9 @@ use Rattle.wire.specs.Answer.Ans.{done, need, hickup, broken}
 use Rattle.wire.specs.Parser.{pick, ret, here, refuse, having, _>>=_}
 use Rattle.wire.specs.Number.{number}
 use Rattle.wire.specs.Run.{range, bytes}
+use Rattle.wire.specs.declared.Ended.{Ended}
 use Rattle.strings.specs.Utf8.{validUpTo}
-use Rattle.headertype.specs.declared.OptRange.{OptRange}
+use Rattle.headertype.specs.declared.OptText.{OptText}
 use Rattle.dlt.specs.TypeInfoWord.{floatBytes, typeInfoOf}
 use Rattle.dlt.specs.declared.FloatWidth.{FloatWidth}
 use Rattle.dlt.specs.declared.TypeInfoKind.{TypeInfoKind}
@@ -22,9 +23,9 @@ use Rattle.arguments.specs.Argument.{decoded, made}
 use Rattle.signals.specs.declared.ContentAns.{ContentAns}
 use Rattle.signals.specs.declared.SignalAns.{SignalAns}
 
--- a string's whole content must be UTF-8 and keeps its zero bytes: else Hickup 6
+-- a string's whole content must be UTF-8 and keeps its zero bytes, so it ends at its size: else Hickup 6
 unfoldable pub utf8 : ℕ → Parser Value
-utf8 n = having n (λ s at. pick (leb n (validUpTo n s at)) (done (Value.StringVal (range at n)) (at + n)) (hickup 6))
+utf8 n = having n (λ s at. pick (leb n (validUpTo n s at)) (done (Value.StringVal (record { place = range at n; ended = Ended.Size })) (at + n)) (hickup 6))
 
 -- a fixed-point kind gets a slice of the value's width only, so it is never a value: Hickup 7 once that width is there
 unfoldable pub fixedWidth : FloatWidth → Parser Value
@@ -52,7 +53,7 @@ unfoldable pub inData : Bool → TypeInfo → Parser Argument
 inData big info = do
   start ← here
   v ← content big (info .kind)
-  made start info OptRange.Absent OptRange.Absent OptPoint.Absent v
+  made start info OptText.Absent OptText.Absent OptPoint.Absent v
 
 -- the data is whole, so what is too short is Hickup 5, and nothing is Incomplete
 abbrev pub closed : {A : Type 0} → Ans A → Ans A

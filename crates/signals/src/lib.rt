@@ -12,15 +12,17 @@ use dlt::Argument;
 use dlt::Decoded;
 use dlt::FloatWidth;
 use dlt::OptPoint;
-use dlt::OptRange;
+use dlt::OptText;
 use dlt::TypeInfo;
 use dlt::TypeInfoKind;
 use dlt::Value;
 use values::GotValue;
 use values::Numeric;
 use values::ValueAns;
+use wire::Ended;
 use wire::Range;
 use wire::RangeAns;
+use wire::Text;
 use wire::U8Ans;
 use wire::U16Ans;
 
@@ -35,7 +37,7 @@ pub enum SignalAns {
     Hickup(u8),
 }
 
-// A string of a size, all of which must be UTF-8.
+// A string of a size, all of which must be UTF-8: it ends at its size, zero bytes and all.
 fn whole_string(s: &[u8], at: usize, size: u16) -> ContentAns
     ensures { λ r. ⌜ contentAns r ≡ utf8 size (now (s .entry)) at ⌝ }
 {
@@ -47,7 +49,10 @@ fn whole_string(s: &[u8], at: usize, size: u16) -> ContentAns
     let valid = strings::valid_up_to(s, at, n);
     if n <= valid {
         ContentAns::Done(GotValue {
-            v: Value::StringVal(Range { start: at, len: n }),
+            v: Value::StringVal(Text {
+                place: Range { start: at, len: n },
+                ended: Ended::Size,
+            }),
             next: at + n,
         })
     } else {
@@ -150,8 +155,8 @@ fn in_data(s: &[u8], at: usize, info: TypeInfo, big: bool) -> ArgumentAns
     ArgumentAns::Done(GotArgument {
         v: Argument {
             type_info: info,
-            name: OptRange::Absent,
-            unit: OptRange::Absent,
+            name: OptText::Absent,
+            unit: OptText::Absent,
             fixed_point: OptPoint::Absent,
             value,
             start: at,

@@ -10,9 +10,9 @@ use borrow.Author.Tests.{eq-eqb, ne-eqb}
 use Rattle.wire.specs.Answer.{Ans, Parser}
 use Rattle.wire.specs.Answer.Ans.{done, need, hickup}
 use Rattle.wire.specs.Parser.{refuse, choose, _>>=_}
-use Rattle.wire.specs.Run.{rangeAns}
-use Rattle.wire.specs.declared.RangeAns.{RangeAns}
-use Rattle.wire.specs.declared.GotRange.{GotRange}
+use Rattle.wire.specs.Run.{textAns}
+use Rattle.wire.specs.declared.TextAns.{TextAns}
+use Rattle.wire.specs.declared.GotText.{GotText}
 use Rattle.wire.proofs.Step.{asking-done, fixed-done, fixed-need}
 use Rattle.wire.proofs.Reading.{by-done, by-need, by-hickup}
 use Rattle.wire.specs.Number.{number}
@@ -50,12 +50,12 @@ module _ (n : ℕ) (s : List ℕ) (at l : ℕ) (is-left : l ≡ length s - at) w
   text-there h = sym (asking-done n (textNeed n) _ s at (rw (← is-left) h))
 
 -- ---- r is what the string reader gave
-module _ (n : ℕ) (s : List ℕ) (at : ℕ) (r : RangeAns) (e : rangeAns r ≡ text n s at) where
-  pub text-read : (g : GotRange) → r ≡ RangeAns.Done g → done tt (g .next) ≡ skimText n s at
-  text-read g q = ap passed (ap rangeAns (sym q) ∙ e) ∙ text-skims n s at
+module _ (n : ℕ) (s : List ℕ) (at : ℕ) (r : TextAns) (e : textAns r ≡ text n s at) where
+  pub text-read : (g : GotText) → r ≡ TextAns.Done g → done tt (g .next) ≡ skimText n s at
+  text-read g q = ap passed (ap textAns (sym q) ∙ e) ∙ text-skims n s at
 
-  pub text-lacks : (m : ℕ) → r ≡ RangeAns.Need m → need m ≡ skimText n s at
-  text-lacks m q = ap passed (ap rangeAns (sym q) ∙ e) ∙ text-skims n s at
+  pub text-lacks : (m : ℕ) → r ≡ TextAns.Need m → need m ≡ skimText n s at
+  text-lacks m q = ap passed (ap textAns (sym q) ∙ e) ∙ text-skims n s at
 
 either-one : (a b : Bool) → b ≡ true → either a b ≡ true
 either-one true b e = refl

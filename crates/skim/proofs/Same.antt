@@ -11,8 +11,8 @@ use Rattle.wire.specs.Answer.Ans.{done, need, hickup, broken}
 use Rattle.wire.specs.Parser.{pick, follow, ret, here, choose, asking, having, fixed, _>>=_}
 use Rattle.wire.specs.Number.{number, numeric}
 use Rattle.wire.specs.Run.{bytes}
-use Rattle.strings.specs.Text.{text, textOf, textNeed}
-use Rattle.headertype.specs.declared.OptRange.{OptRange}
+use Rattle.strings.specs.Text.{text, endedText, textNeed}
+use Rattle.headertype.specs.declared.OptText.{OptText}
 use Rattle.dlt.specs.TypeInfoWord.{wideLength, lengthBytes, floatBytes}
 use Rattle.dlt.specs.declared.FloatWidth.{FloatWidth}
 use Rattle.dlt.specs.declared.TypeLength.{TypeLength}
@@ -97,7 +97,7 @@ bytes-skims n = fixed-skims n _
 
 pub text-skims : (n : ℕ) → Skims (text n) (skimText n)
 unfolding text skimText asking
-text-skims n s at = picked (leb n (length s - at)) (textOf n s at) (at + n) (textNeed n s at)
+text-skims n s at = picked (leb n (length s - at)) (endedText n s at) (at + n) (textNeed n s at)
 
 -- ---- the names
 name-skims : (big : Bool) → Skims (name big) (number big 2 >>= (λ n. skimText n))
@@ -107,9 +107,9 @@ name-skims big = read (number big 2) (λ n. text n) (λ n. skimText n) text-skim
 maybeName-skims : (info big : Bool) → Skims (maybeName info big) (skimName info big)
 unfolding maybeName skimName
 maybeName-skims info big =
-    both info (name big >>= (λ v. ret (OptRange.Present v))) (ret OptRange.Absent) (number big 2 >>= (λ n. skimText n)) (ret tt)
-    (last (name big) (number big 2 >>= (λ n. skimText n)) (λ v. ret (OptRange.Present v)) (name-skims big) (λ v. gave (OptRange.Present v)))
-    (gave OptRange.Absent)
+    both info (name big >>= (λ v. ret (OptText.Present v))) (ret OptText.Absent) (number big 2 >>= (λ n. skimText n)) (ret tt)
+    (last (name big) (number big 2 >>= (λ n. skimText n)) (λ v. ret (OptText.Present v)) (name-skims big) (λ v. gave (OptText.Present v)))
+    (gave OptText.Absent)
 
 texts-skims : (a b : ℕ) → Skims (texts a b) (skimTexts a b)
 unfolding texts skimTexts
@@ -140,7 +140,7 @@ point-skims big w =
     behind (number big 4) (run 4) _ (run (floatBytes w)) (number-skims big 4)
     (λ n. last (numeric (offsetOf w) big (floatBytes w)) (run (floatBytes w)) _ (numeric-skims (offsetOf w) big (floatBytes w)) (λ u. gave _))
 
-made-skims : (start : ℕ) (info : TypeInfo) (a b : OptRange) (p : OptPoint) (v : Value) → Skims (made start info a b p v) (ret tt)
+made-skims : (start : ℕ) (info : TypeInfo) (a b : OptText) (p : OptPoint) (v : Value) → Skims (made start info a b p v) (ret tt)
 unfolding _>>=_ here ret
 made-skims start info a b p v s at = refl
 
@@ -169,7 +169,7 @@ bool-skims : (big : Bool) (start : ℕ) (info : TypeInfo) → Skims (boolean big
 unfolding boolean skimBool
 bool-skims big start info =
     behind (maybeName (info .«has_variable_info») big) (skimName (info .«has_variable_info») big) _ (run 1) (maybeName-skims (info .«has_variable_info») big)
-    (λ a. last (number true 1) (run 1) _ (number-skims true 1) (λ v. made-skims start info a OptRange.Absent OptPoint.Absent (Value.Bool v)))
+    (λ a. last (number true 1) (run 1) _ (number-skims true 1) (λ v. made-skims start info a OptText.Absent OptPoint.Absent (Value.Bool v)))
 
 -- a value of n bytes: raw, or a string
 raw-content : (n : ℕ) → Skims (content true n) (run n)
@@ -186,7 +186,7 @@ string-skims big start info =
     read (number big 2) _ _
     (λ n.
     behind (maybeName (info .«has_variable_info») big) (skimName (info .«has_variable_info») big) _ (skimText n) (maybeName-skims (info .«has_variable_info») big)
-    (λ a. last (content false n) (skimText n) _ (text-content n) (λ v. made-skims start info a OptRange.Absent OptPoint.Absent v)))
+    (λ a. last (content false n) (skimText n) _ (text-content n) (λ v. made-skims start info a OptText.Absent OptPoint.Absent v)))
 
 raw-skims : (big : Bool) (start : ℕ) (info : TypeInfo) → Skims (sized true big start info) (skimRaw (info .«has_variable_info») big)
 unfolding sized skimRaw
@@ -194,7 +194,7 @@ raw-skims big start info =
     read (number big 2) _ _
     (λ n.
     behind (maybeName (info .«has_variable_info») big) (skimName (info .«has_variable_info») big) _ (run n) (maybeName-skims (info .«has_variable_info») big)
-    (λ a. last (content true n) (run n) _ (raw-content n) (λ v. made-skims start info a OptRange.Absent OptPoint.Absent v)))
+    (λ a. last (content true n) (run n) _ (raw-content n) (λ v. made-skims start info a OptText.Absent OptPoint.Absent v)))
 
 kind-skims : (big : Bool) (start : ℕ) (info : TypeInfo) (k : TypeInfoKind) → Skims (kinded big start info k) (skimKind big (info .«has_variable_info») k)
 unfolding kinded skimKind

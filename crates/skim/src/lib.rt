@@ -3,7 +3,7 @@
 ghost use mathlib.Core.Path.{_≡_};
 ghost use Rattle.arguments.specs.Argument.{argument};
 ghost use Rattle.skim.specs.Skim.{run, skimText, skimName, skimTexts, skimNames, skimPlain, skimPoint, skimScaled, skimBool, skimString, skimRaw, bytesOf, skimWhole, skimFloat, skimFixed, skimNumber, skimWord, passed, skimAns};
-use wire::RangeAns;
+use wire::TextAns;
 use wire::U16Ans;
 use wire::U32Ans;
 
@@ -35,8 +35,8 @@ fn skim_text(s: &[u8], at: usize, size: usize) -> SkimAns
         return SkimAns::Done(at + size);
     }
     match strings::dlt_zero_terminated_string_intern(s, at, size) {
-        RangeAns::Done(all) => SkimAns::Done(all.next),
-        RangeAns::Need(need) => SkimAns::Need(need),
+        TextAns::Done(all) => SkimAns::Done(all.next),
+        TextAns::Need(need) => SkimAns::Need(need),
     }
 }
 

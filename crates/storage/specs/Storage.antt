@@ -9,7 +9,7 @@ use Rattle.wire.specs.Answer.Ans.{done, need}
 use Rattle.wire.specs.Parser.{pick, ret, _>>=_}
 use Rattle.wire.specs.Number.{number}
 use Rattle.wire.specs.Run.{bytes}
-use Rattle.wire.specs.declared.Range.{Range}
+use Rattle.wire.specs.declared.Text.{Text}
 use Rattle.strings.specs.Text.{identified}
 use Rattle.mark.specs.First.{pattern, find}
 use Rattle.mark.specs.declared.Found.{Found}
@@ -25,7 +25,7 @@ fromMark lead none s at Found.Nothing = done none (length s)
 unfoldable pub marked : {A : Type 0} → List ℕ → ℕ → (ℕ → Parser A) → A → Parser A
 marked mark n lead none s at = pick (leb n (length s - at)) (fromMark lead none s at (find mark s at)) (need 0)
 
-unfoldable pub storedOf : ℕ → ℕ → ℕ → Range → OptStored
+unfoldable pub storedOf : ℕ → ℕ → ℕ → Text → OptStored
 storedOf skipped seconds micros ecu =
     OptStored.Present (record { header = record { timestamp = record { seconds = seconds; microseconds = micros }; «ecu_id» = ecu }; skipped = skipped })
 

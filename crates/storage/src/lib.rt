@@ -11,6 +11,7 @@ use headertype::StorageHeader;
 use mark::Found;
 use wire::GotU64;
 use wire::RangeAns;
+use wire::TextAns;
 use wire::U32Ans;
 
 // A storage header, and how many bytes were skipped to reach its pattern.
@@ -72,8 +73,8 @@ fn owned_fields(s: &[u8], at: usize, skipped: usize, seconds: u32, micros: u32) 
     ensures { λ r. ⌜ storageAns r ≡ owned skipped seconds micros (now (s .entry)) at ⌝ }
 {
     let ecu = match strings::identifier(s, at) {
-        RangeAns::Done(ecu) => ecu,
-        RangeAns::Need(no_ecu) => return StorageAns::Need(no_ecu),
+        TextAns::Done(ecu) => ecu,
+        TextAns::Need(no_ecu) => return StorageAns::Need(no_ecu),
     };
     let ecu_id = ecu.v;
     StorageAns::Done(GotStorage {

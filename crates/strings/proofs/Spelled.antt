@@ -12,9 +12,10 @@ use borrow.Author.Tests.{lt-ltb, le-ltb, leb-true, leb-false, eqb-true, eqb-fals
 use Rattle.wire.specs.Answer.Ans.{done, need}
 use Rattle.wire.specs.Parser.{pick}
 use Rattle.wire.specs.Run.{range}
+use Rattle.wire.specs.declared.Ended.{Ended}
 use Rattle.wire.proofs.Step.{asking-need}
 use Rattle.strings.specs.Utf8.{Span, Row, table, inside, fits, formed, among, sequence, validUpTo}
-use Rattle.strings.specs.Text.{before0, letter, textNeed, textOf, text, identified}
+use Rattle.strings.specs.Text.{before0, letter, textNeed, textOf, endedOf, text, identified}
 use Rattle.strings.proofs.Utf8.{sequence-le, valid-step, valid-stop, one-letter}
 use Rattle.strings.proofs.Longest.{between, prefix-within}
 use Rattle.strings.proofs.Strings.{Passed, passed-none, passed-more, passed, found, before0-le, text-within, no-truth, letter-is, is-letter, text-done}
@@ -327,6 +328,6 @@ module _ (s : List ℕ) (at l : ℕ) (is-left : l ≡ length s - at) where
   unfolding identified text
   id-waits m e h = sym (asking-need 4 _ _ s at (omega arith) ∙ ap need (sym e))
 
-  pub id-done : (v : ℕ) → v ≡ valued 4 s at → 4 ≤ l → done (range at v) (at + 4) ≡ identified s at
-  unfolding identified textOf
-  id-done v e h = text-done 4 s at l is-left v e h
+  pub id-done : (v : ℕ) (y : Ended) → v ≡ valued 4 s at → y ≡ endedOf 4 s at → 4 ≤ l → done (record { place = range at v; ended = y }) (at + 4) ≡ identified s at
+  unfolding identified
+  id-done v y e q h = text-done 4 s at l is-left v y e q h

@@ -12,13 +12,16 @@ use Rattle.wire.specs.Answer.{Ans, Parser}
 use Rattle.wire.specs.Answer.Ans.{done, need}
 use Rattle.wire.specs.Parser.{asking, pick, lacking}
 use Rattle.wire.specs.Lawful.{Lawful, Reads}
-use Rattle.wire.specs.Run.{range, rangeAns}
-use Rattle.wire.specs.declared.RangeAns.{RangeAns}
-use Rattle.wire.specs.declared.GotRange.{GotRange}
+use Rattle.wire.specs.Run.{range, textAns}
+use Rattle.wire.specs.declared.Range.{Range}
+use Rattle.wire.specs.declared.TextAns.{TextAns}
+use Rattle.wire.specs.declared.GotText.{GotText}
+use Rattle.wire.specs.declared.Text.{Text}
+use Rattle.wire.specs.declared.Ended.{Ended}
 use Rattle.wire.proofs.Laws.{sized-law}
 use Rattle.wire.proofs.Step.{asking-done, asking-need}
 use Rattle.strings.specs.Utf8.{validUpTo, least}
-use Rattle.strings.specs.Text.{before0, letter, Letters, textNeed, textOf, text, identified}
+use Rattle.strings.specs.Text.{before0, letter, Letters, textNeed, textOf, endedOf, endedText, text, identified}
 use Rattle.strings.proofs.Utf8.{validUpTo-same, Valid, valid-none, valid-more, valid-all, one-letter}
 use Rattle.strings.proofs.Longest.{prefix-within}
 
@@ -50,6 +53,14 @@ textOf-same n =
           ap (range at) (ap (λ (k : ℕ). validUpTo k (s ++ t) at) (before0-same n s t at h) ∙ validUpTo-same (before0 n s at) s t at (omega arith));
     }
 
+ended-same : (n : ℕ) (s t : List ℕ) (at : ℕ) → at + n ≤ length s → endedOf n (s ++ t) at ≡ endedOf n s at
+unfolding endedOf
+ended-same n s t at h = rw (before0-same n s t at h, textOf-same n .same s t at h)
+
+endedText-same : (n : ℕ) → Reads n (endedText n)
+unfolding endedText
+endedText-same n = record { same = λ s t at h. ap₂ (λ (p : Range) (w : Ended). record { place = p; ended = w }) (textOf-same n .same s t at h) (ended-same n s t at h) }
+
 text-need-small : (n : ℕ) (s : List ℕ) (at : ℕ) → length s - at < n → textNeed n s at ≤ lacking n s at
 text-need-small n s at h = by (ltb (before0 (length s - at) s at) (length s - at))
   where
@@ -59,7 +70,7 @@ text-need-small n s at h = by (ltb (before0 (length s - at) s at) (length s - at
 
 pub text-law : (n : ℕ) → Lawful (text n)
 unfolding text
-text-law n = sized-law n (textNeed n) (textOf n) (text-need-small n) (textOf-same n)
+text-law n = sized-law n (textNeed n) (endedText n) (text-need-small n) (endedText-same n)
 
 pub identified-law : Lawful identified
 unfolding identified
@@ -147,26 +158,29 @@ module _ (s : List ℕ) (at n : ℕ) where
   all-valid k p = sym (valid-all s at k k k (omega arith) refl (letters-valid s at k k (omega arith, p .1)))
 
   -- the value's length: all n bytes are letters; or k of them are, and a zero byte stands behind these
-  pub letters-all : (k : ℕ) → k ≡ n → Letters s at n k → n ≡ validUpTo (before0 n s at) s at
+  pub letters-all : (k : ℕ) → k ≡ n → Letters s at n k → n ≡ textOf n s at .len
+  unfolding textOf
   letters-all k q p =
       let r : Letters s at n n = rw q at p in
       rw (← passed-all s at n n (omega arith) (letters-passed s at n n r)) (sym (all-valid n r))
 
-  pub letters-end : (k : ℕ) → (k ≡ n → ⊥) → getD s (at + k) 0 ≡ 0 → Letters s at n k → k ≡ validUpTo (before0 n s at) s at
+  pub letters-end : (k : ℕ) → (k ≡ n → ⊥) → getD s (at + k) 0 ≡ 0 → Letters s at n k → k ≡ textOf n s at .len
+  unfolding textOf
   letters-end k z e p =
       rw (← passed-found s at n k (omega (arith, z, p .0)) e (letters-passed s at n k p)) (sym (all-valid k p))
 
   -- the general way: z is what `before_zero` found, v what `valid_up_to` found
-  pub content-is : (z v : ℕ) → n ≤ length s - at → z ≡ before0 n s at → v ≡ validUpTo (least z (length s - at)) s at → v ≡ validUpTo (before0 n s at) s at
+  pub content-is : (z v : ℕ) → n ≤ length s - at → z ≡ before0 n s at → v ≡ validUpTo (least z (length s - at)) s at → v ≡ textOf n s at .len
+  unfolding textOf
   content-is z v h e f =
       let k : z ≤ n = rw e (before0-le n s at) in
       rw (le-leb z (length s - at) (omega arith), e) at f
 
 -- ---- the answers, as the code has them: l is what is left, z what `before_zero` found, and v what `content` found
 module _ (n : ℕ) (s : List ℕ) (at l : ℕ) (is-left : l ≡ length s - at) where
-  pub text-done : (v : ℕ) → v ≡ validUpTo (before0 n s at) s at → n ≤ l → done (range at v) (at + n) ≡ text n s at
-  unfolding text textOf
-  text-done v e h = sym (asking-done n _ _ s at (omega arith) ∙ ap (λ (k : ℕ). done (range at k) (at + n)) (sym e))
+  pub text-done : (v : ℕ) (w : Ended) → v ≡ textOf n s at .len → w ≡ endedOf n s at → n ≤ l → done (record { place = range at v; ended = w }) (at + n) ≡ text n s at
+  unfolding text textOf endedText
+  text-done v w e q h = sym (asking-done n _ _ s at (omega arith) ∙ ap₂ (λ (k : ℕ) (y : Ended). done (record { place = range at k; ended = y }) (at + n)) (sym e) (sym q))
 
   pub text-more : (z : ℕ) → z ≡ before0 l s at → z < l → l < n → need (n - l) ≡ text n s at
   unfolding text
@@ -183,18 +197,18 @@ module _ (n : ℕ) (s : List ℕ) (at l : ℕ) (is-left : l ≡ length s - at) w
 pub ruleset texts = (text-done, text-more, text-one)
 
 -- a string that was read, where its bytes are there: r is a call's result
-module _ (n : ℕ) (s : List ℕ) (at : ℕ) (r : RangeAns) (e : rangeAns r ≡ text n s at) where
-  pub text-is : (g : GotRange) → r ≡ RangeAns.Done g → g .v ≡ textOf n s at
+module _ (n : ℕ) (s : List ℕ) (at : ℕ) (r : TextAns) (e : textAns r ≡ text n s at) where
+  pub text-is : (g : GotText) → r ≡ TextAns.Done g → g .v ≡ endedText n s at
   unfolding text asking
-  text-is g q = by (leb n (length s - at)) (sym (ap rangeAns q) ∙ e)
+  text-is g q = by (leb n (length s - at)) (sym (ap textAns q) ∙ e)
     where
-      by : (t : Bool) → done (g .v) (g .next) ≡ pick t (done (textOf n s at) (at + n)) (need (textNeed n s at)) → g .v ≡ textOf n s at
+      by : (t : Bool) → done (g .v) (g .next) ≡ pick t (done (endedText n s at) (at + n)) (need (textNeed n s at)) → g .v ≡ endedText n s at
       by true f = cc
       by false f = let z : _≡_ {A = ℕ} 0 1 = cc in absurd (omega arith)
 
-  pub text-there : (m : ℕ) → n ≤ length s - at → r ≡ RangeAns.Need m → ⊥
+  pub text-there : (m : ℕ) → n ≤ length s - at → r ≡ TextAns.Need m → ⊥
   unfolding text
   text-there m h q =
-      let f : need m ≡ done (textOf n s at) (at + n) = sym (ap rangeAns q) ∙ e ∙ asking-done n _ _ s at h in
+      let f : need m ≡ done (endedText n s at) (at + n) = sym (ap textAns q) ∙ e ∙ asking-done n _ _ s at h in
       let z : _≡_ {A = ℕ} 0 1 = cc in
       omega arith

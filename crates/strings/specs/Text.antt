@@ -9,7 +9,9 @@ use Rattle.wire.specs.Answer.{Ans, Parser}
 use Rattle.wire.specs.Answer.Ans.{done}
 use Rattle.wire.specs.Parser.{asking, pick}
 use Rattle.wire.specs.Run.{range}
+use Rattle.wire.specs.declared.Ended.{Ended}
 use Rattle.wire.specs.declared.Range.{Range}
+use Rattle.wire.specs.declared.Text.{Text}
 use Rattle.strings.specs.Utf8.{validUpTo}
 
 -- the content stops before the first zero byte or at the size: how many of the n bytes from a position it has
@@ -29,14 +31,23 @@ Letters s at n k = (k ≤ n) × ((i : ℕ) → i < k → letter (getD s (at + i)
 unfoldable pub textOf : ℕ → List ℕ → ℕ → Range
 textOf n s at = range at (validUpTo (before0 n s at) s at)
 
+-- why it ended: at bytes that are no UTF-8, where the value is shorter than the content; else at a zero byte, where the content is shorter than the
+-- size; else at its size
+unfoldable pub endedOf : ℕ → List ℕ → ℕ → Ended
+endedOf n s at = pick (ltb (textOf n s at .len) (before0 n s at)) Ended.Invalid (pick (ltb (before0 n s at) n) Ended.Zero Ended.Size)
+
+-- both: where the value stands, and why it ended
+unfoldable pub endedText : ℕ → List ℕ → ℕ → Text
+endedText n s at = record { place = textOf n s at; ended = endedOf n s at }
+
 -- a string of size n with fewer than n bytes left needs 1 if no zero byte is among them, else n less what is left
 abbrev pub textNeed : ℕ → List ℕ → ℕ → ℕ
 textNeed n s at = pick (ltb (before0 (length s - at) s at) (length s - at)) (n - (length s - at)) 1
 
 -- a string of size n; the size is used up all the same
-unfoldable pub text : ℕ → Parser Range
-text n = asking n (textNeed n) (λ s at. done (textOf n s at) (at + n))
+unfoldable pub text : ℕ → Parser Text
+text n = asking n (textNeed n) (λ s at. done (endedText n s at) (at + n))
 
 -- an identifier is one of size 4
-unfoldable pub identified : Parser Range
+unfoldable pub identified : Parser Text
 identified = text 4

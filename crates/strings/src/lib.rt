@@ -1,17 +1,19 @@
-// Strings of a size, as ranges of the caller's bytes: port of `dlt_zero_terminated_string`, `dlt_zero_terminated_string_intern` and
-// `parse_ecu_id` in parse.rs of dlt-core 0.20.2 (Apache-2.0, NOTICE). `str::from_utf8` and its `valid_up_to` are written out by the
+// Strings of a size, as ranges of the caller's bytes, and why each ended, which the source does not say: port of `dlt_zero_terminated_string`,
+// `dlt_zero_terminated_string_intern` and `parse_ecu_id` in parse.rs of dlt-core 0.20.2 (Apache-2.0, NOTICE). `str::from_utf8` and its `valid_up_to` are written out by the
 // Unicode standard's table. Only the size's bytes are looked at.
 ghost use mathlib.Core.Path.{_≡_};
 ghost use mathlib.Core.List.{[], _∷_};
 ghost use Prim.Native.Nat.{_+_, _-_, _≤_, _<_};
 ghost use lib.ListN.{length, getD};
 ghost use Rattle.wire.specs.Answer.Ans.{done};
-ghost use Rattle.wire.specs.Run.{range, rangeAns};
+ghost use Rattle.wire.specs.Run.{range, textAns};
 ghost use Rattle.strings.specs.Utf8.{span, tail, inside, formed, sequence, least, validUpTo};
-ghost use Rattle.strings.specs.Text.{before0, letter, Letters, textNeed, textOf, text, identified};
-use wire::GotRange;
+ghost use Rattle.strings.specs.Text.{before0, letter, Letters, textNeed, textOf, endedOf, text, identified};
+use wire::Ended;
+use wire::GotText;
 use wire::Range;
-use wire::RangeAns;
+use wire::Text;
+use wire::TextAns;
 
 // Whether the byte at `at` is from `low` to `high`.
 fn stands(s: &[u8], at: usize, low: u8, high: u8) -> bool
@@ -195,7 +197,7 @@ fn letters(s: &[u8], at: usize, n: usize) -> usize
 // The length of a string's value, where its `n` bytes are there.
 fn content(s: &[u8], at: usize, n: usize) -> usize
     requires { ⌜ n ≤ length (now s) - at ⌝ }
-    ensures { λ r. ⌜ r ≡ validUpTo (before0 n (now (s .entry)) at) (now (s .entry)) at ⌝ }
+    ensures { λ r. ⌜ r ≡ textOf n (now (s .entry)) at .len ⌝ }
 {
     let plain = letters(s, at, n);
     if plain == n {
@@ -208,28 +210,45 @@ fn content(s: &[u8], at: usize, n: usize) -> usize
     valid_up_to(s, at, before)
 }
 
+// Why a string of `n` bytes ended whose value has `len` of them: at its size, if the value fills it; else the byte behind the value tells.
+fn why_ended(s: &[u8], at: usize, n: usize, len: usize) -> Ended
+    requires { ⌜ (n ≤ length (now s) - at) × (len ≡ textOf n (now s) at .len) × (len ≤ n) ⌝ }
+    ensures { λ r. ⌜ r ≡ endedOf n (now (s .entry)) at ⌝ }
+{
+    if len == n {
+        return Ended::Size;
+    }
+    if s[at + len] == 0 {
+        Ended::Zero
+    } else {
+        Ended::Invalid
+    }
+}
+
 // A string of a size at the front of the bytes.
-pub fn dlt_zero_terminated_string(s: &[u8], size: usize) -> RangeAns
-    ensures { λ r. ⌜ rangeAns r ≡ text size (now (s .entry)) 0 ⌝ }
+pub fn dlt_zero_terminated_string(s: &[u8], size: usize) -> TextAns
+    ensures { λ r. ⌜ textAns r ≡ text size (now (s .entry)) 0 ⌝ }
 {
     dlt_zero_terminated_string_intern(s, 0, size)
 }
 
-// A string of a size at a position: the longest valid UTF-8 prefix of what stands before its first zero byte.
-pub fn dlt_zero_terminated_string_intern(s: &[u8], at: usize, size: usize) -> RangeAns
-    ensures { λ r. ⌜ rangeAns r ≡ text size (now (s .entry)) at ⌝ }
+// A string of a size at a position: the longest valid UTF-8 prefix of what stands before its first zero byte, and why it ended.
+pub fn dlt_zero_terminated_string_intern(s: &[u8], at: usize, size: usize) -> TextAns
+    ensures { λ r. ⌜ textAns r ≡ text size (now (s .entry)) at ⌝ }
 {
     let rest = wire::left(s, at);
     if rest < size {
         if before_zero(s, at, rest) < rest {
-            return RangeAns::Need(size - rest);
+            return TextAns::Need(size - rest);
         }
-        return RangeAns::Need(1);
+        return TextAns::Need(1);
     }
-    RangeAns::Done(GotRange {
-        v: Range {
-            start: at,
-            len: content(s, at, size),
+    let len = content(s, at, size);
+    let ended = why_ended(s, at, size, len);
+    TextAns::Done(GotText {
+        v: Text {
+            place: Range { start: at, len },
+            ended,
         },
         next: at + size,
     })
@@ -308,13 +327,16 @@ fn from_first(s: &[u8], at: usize) -> usize
     }
 }
 
-// An identifier that was read: its value has `len` bytes, and all four are used.
-fn read_identifier(at: usize, len: usize) -> RangeAns
+// An identifier that was read: where its value stands, why it ended, and all four bytes are used.
+fn read_identifier(at: usize, len: usize, ended: Ended) -> TextAns
     requires { ⌜ at + 4 < 18446744073709551616 ⌝ }
-    ensures { λ r. ⌜ rangeAns r ≡ done (range at len) (at + 4) ⌝ }
+    ensures { λ r. ⌜ textAns r ≡ done (record { place = range at len; ended = ended }) (at + 4) ⌝ }
 {
-    RangeAns::Done(GotRange {
-        v: Range { start: at, len },
+    TextAns::Done(GotText {
+        v: Text {
+            place: Range { start: at, len },
+            ended,
+        },
         next: at + 4,
     })
 }
@@ -338,16 +360,17 @@ fn id_need(s: &[u8], at: usize, rest: usize) -> usize
 }
 
 // An identifier: a string of size 4. Most values have all four bytes; answered by themselves they are quicker (docs/DECISIONS.md).
-pub fn identifier(s: &[u8], at: usize) -> RangeAns
-    ensures { λ r. ⌜ rangeAns r ≡ identified (now (s .entry)) at ⌝ }
+pub fn identifier(s: &[u8], at: usize) -> TextAns
+    ensures { λ r. ⌜ textAns r ≡ identified (now (s .entry)) at ⌝ }
 {
     let rest = wire::left(s, at);
     if rest < 4 {
-        return RangeAns::Need(id_need(s, at, rest));
+        return TextAns::Need(id_need(s, at, rest));
     }
     let len = from_first(s, at);
     if len == 4 {
-        return read_identifier(at, 4);
+        return read_identifier(at, 4, Ended::Size);
     }
-    read_identifier(at, len)
+    let ended = why_ended(s, at, 4, len);
+    read_identifier(at, len, ended)
 }

@@ -9,11 +9,11 @@ use lib.ListN.{length}
 use Rattle.wire.specs.Answer.Ans.{done}
 use Rattle.wire.specs.Parser.{ret, here, choose}
 use Rattle.wire.specs.Number.{numberOf}
-use Rattle.wire.specs.declared.Range.{Range}
+use Rattle.wire.specs.declared.Text.{Text}
 use Rattle.wire.proofs.Step.{ends}
 use Rattle.headertype.specs.Bits.{oneIf}
 use Rattle.headertype.specs.HeaderType.{allHeaders, headerTypeByte, overallLength}
-use Rattle.headertype.specs.declared.OptRange.{OptRange}
+use Rattle.headertype.specs.declared.OptText.{OptText}
 use Rattle.headers.specs.Standard.{standard}
 use Rattle.headers.specs.Extended.{extended}
 use Rattle.headers.proofs.Laws.{standard-law}
@@ -69,7 +69,7 @@ module _ {l : Opening} {n : ℕ} {s : List ℕ} (p : Parts l n s) where
   opening-says = standard-says (l .header) (p .mid) s (l .start) (p .first)
 
   -- the ids that a filter looks at lie within the bytes
-  pub ecu-in : l .start ≤ length s → (r : Range) → l .header .«ecu_id» ≡ OptRange.Present r → r .start + r .len ≤ length s
+  pub ecu-in : l .start ≤ length s → (t : Text) → l .header .«ecu_id» ≡ OptText.Present t → t .place .start + t .place .len ≤ length s
   ecu-in h = ecu-inside (l .header) (p .mid) s (l .start) h (p .first)
 
   pub ids-in : l .start ≤ length s → IdsIn s (l .extended)

@@ -11,7 +11,7 @@ use Rattle.wire.specs.Answer.Ans.{done}
 use Rattle.wire.specs.Number.{numberOf}
 use Rattle.headertype.specs.HeaderType.{allHeaders, headerTypeByte, overallLength}
 use Rattle.headertype.specs.declared.OptNum.{OptNum}
-use Rattle.headertype.specs.declared.OptRange.{OptRange}
+use Rattle.headertype.specs.declared.OptText.{OptText}
 use Rattle.headertype.specs.declared.Endianness.{Endianness}
 use Rattle.headertype.specs.declared.StandardHeader.{StandardHeader}
 use Rattle.headers.specs.Standard.{standard}
@@ -43,7 +43,7 @@ pub made-by-hand : isInvalid (record {
   endianness = Endianness.Little;
   «has_extended_header» = false;
   «message_counter» = 0;
-  «ecu_id» = OptRange.Absent;
+  «ecu_id» = OptText.Absent;
   «session_id» = OptNum.Absent;
   timestamp = OptNum.Absent;
   «payload_length» = 65535;

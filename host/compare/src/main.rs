@@ -1,11 +1,13 @@
 //! compare KIND COUNT SEED [THREADS]: makes requests by seed as `oracle/compare` does, asks the crate and the archive in this process, and counts the
 //! answers that differ. KIND is msg, consume, fwd, args, index, limited (index with a limit), net (msg of
-//! network traces) or all; or ids, which all leaves out: msg with 1,901,020 identifiers of every make, and then random ones.
+//! network traces), why-msg, why-args (msg and args with why each text ended, over all numbers of a message and an argument) or all; or ids, which all leaves
+//! out: msg with 1,901,020 identifiers of every make, and then random ones; or why-ids, the same with why.
 //! With threads, each has a seed of its own: SEED, SEED + 1, ..
 
+use std::panic::catch_unwind;
 use std::time::Instant;
 
-const KINDS: [&str; 7] = ["msg", "consume", "fwd", "args", "index", "limited", "net"];
+const KINDS: [&str; 9] = ["msg", "consume", "fwd", "args", "index", "limited", "net", "why-msg", "why-args"];
 
 struct Count {
     asked: u64,
@@ -16,7 +18,8 @@ fn compare(kind: &str, count: u64, seed: u64) -> Result<Count, String> {
     let mut all = Count { asked: 0, differ: 0 };
     for kind in oracle::requests::kinds(kind)? {
         kind.make(Some(count), seed, &mut |line| {
-            let Some(ours) = host::text::answer(line) else { return };
+            let ours = catch_unwind(|| host::text::answer(line)).unwrap_or(Some("panic".to_string()));
+            let Some(ours) = ours else { return };
             let theirs = oracle::answer::answer(line.as_bytes());
             all.asked += 1;
             if ours != theirs {
@@ -52,7 +55,7 @@ fn run() -> Result<bool, String> {
             sum.differ += part.differ;
         }
         if sum.asked == 0 {
-            return Err(format!("{kind}: nothing was compared; the host answers {}, ids", KINDS.join(", ")));
+            return Err(format!("{kind}: nothing was compared; the host answers {}, ids, why-ids", KINDS.join(", ")));
         }
         println!("{kind}: {} inputs, {} differ", sum.asked, sum.differ);
         asked += sum.asked;

@@ -1,13 +1,13 @@
 //! Lines that can't be read, and lines that are just readable.
 
 use super::random::Rng;
-use super::{Emit, Section, KINDS};
+use super::{Emit, Kind, Section, KINDS, WHY};
 
 pub const TINY: &[Section] = &[written];
 pub const SECTIONS: &[Section] = &[written, spoilt_examples];
 
 /// Lines at the edges of the rule in README.md.
-const WRITTEN: [&str; 70] = [
+const WRITTEN: [&str; 82] = [
     "",
     " ",
     "-",
@@ -78,6 +78,18 @@ const WRITTEN: [&str; 70] = [
     "mi 4G",
     "ti",
     "ti 000000010",
+    "why",
+    "why ",
+    "why  zts 1 41",
+    "why zts 1",
+    "why zts 1 41 ",
+    "WHY zts 1 41",
+    "why why zts 1 41",
+    "zts why 1 41",
+    "why skip 44",
+    "why index 1 0 0 - -",
+    "why ti 10",
+    "whyzts 1 41",
 ];
 
 fn written(_: &mut Rng, emit: Emit) {
@@ -99,6 +111,9 @@ fn spoilt_examples(_: &mut Rng, emit: Emit) {
         "index 1 0 0 - 44",
         "mi 41",
         "ti 10",
+        "why zts 2 c328",
+        "why msg 0 - 20070003",
+        "why args l 200 0200c3",
     ] {
         for place in 0..line.len() {
             let (before, rest) = line.split_at(place);
@@ -113,8 +128,8 @@ fn spoilt_examples(_: &mut Rng, emit: Emit) {
 
 /// A random request of another kind with a byte or two spoilt.
 pub fn random(rng: &mut Rng) -> String {
-    let others = KINDS.len() - 1;
-    let kind = &KINDS[rng.below(others)];
+    let others: Vec<&Kind> = KINDS.iter().filter(|kind| kind.name != "bad").chain(&WHY).collect();
+    let kind = rng.pick(&others);
     let mut line = (kind.random)(rng).into_bytes();
     for _ in 0..rng.between(1, 2) {
         let place = rng.below(line.len());

@@ -127,7 +127,7 @@ pub fn text_bytes(rng: &mut Rng, most: usize) -> Vec<u8> {
 }
 
 /// Any letter, most often one near a boundary of UTF-8.
-fn letter(rng: &mut Rng) -> char {
+pub fn letter(rng: &mut Rng) -> char {
     const NEAR: [u32; 12] =
         [0x7f, 0x80, 0x7ff, 0x800, 0xfff, 0x1000, 0xd7ff, 0xe000, 0xffff, 0x1_0000, 0x3_ffff, 0x10_ffff];
     let code = if rng.one_in(2) { rng.pick(&NEAR) } else { rng.below(0x11_0000) as u32 };
@@ -145,46 +145,49 @@ fn size_field(rng: &mut Rng, length: usize, big: bool) -> Vec<u8> {
     number(size as u128, 2, big)
 }
 
+/// Draws up to so many bytes of a name, a unit or a value.
+pub type Draw = fn(&mut Rng, usize) -> Vec<u8>;
+
 /// What follows the word of a message's argument.
-pub fn argument_body(rng: &mut Rng, word: u32, big: bool) -> Vec<u8> {
+pub fn argument_body(rng: &mut Rng, word: u32, big: bool, text: Draw) -> Vec<u8> {
     let named = word & VARIABLE_INFO != 0;
     let mut body = Vec::new();
     if word & 0x10 != 0 {
         if named {
-            push_name(rng, &mut body, big);
+            push_name(rng, &mut body, big, text);
         }
         body.push(rng.byte());
     } else if word & 0x600 != 0 {
-        push_sized(rng, &mut body, named, big);
+        push_sized(rng, &mut body, named, big, text);
     } else {
         if named {
-            push_name_and_unit(rng, &mut body, big);
+            push_name_and_unit(rng, &mut body, big, text);
         }
         push_number(rng, &mut body, word, big);
     }
     body
 }
 
-fn push_name(rng: &mut Rng, body: &mut Vec<u8>, big: bool) {
-    let name = text_bytes(rng, 8);
+fn push_name(rng: &mut Rng, body: &mut Vec<u8>, big: bool, text: Draw) {
+    let name = text(rng, 8);
     body.extend(size_field(rng, name.len(), big));
     body.extend(name);
 }
 
-fn push_name_and_unit(rng: &mut Rng, body: &mut Vec<u8>, big: bool) {
-    let name = text_bytes(rng, 8);
-    let unit = text_bytes(rng, 5);
+fn push_name_and_unit(rng: &mut Rng, body: &mut Vec<u8>, big: bool, text: Draw) {
+    let name = text(rng, 8);
+    let unit = text(rng, 5);
     body.extend(size_field(rng, name.len(), big));
     body.extend(size_field(rng, unit.len(), big));
     body.extend(name);
     body.extend(unit);
 }
 
-fn push_sized(rng: &mut Rng, body: &mut Vec<u8>, named: bool, big: bool) {
-    let value = text_bytes(rng, 20);
+fn push_sized(rng: &mut Rng, body: &mut Vec<u8>, named: bool, big: bool, text: Draw) {
+    let value = text(rng, 20);
     body.extend(size_field(rng, value.len(), big));
     if named {
-        push_name(rng, body, big);
+        push_name(rng, body, big, text);
     }
     body.extend(value);
 }
@@ -205,8 +208,13 @@ fn push_number(rng: &mut Rng, body: &mut Vec<u8>, word: u32, big: bool) {
 
 /// An argument as it stands in a message: the word, then its body.
 pub fn argument(rng: &mut Rng, word: u32, big: bool) -> Vec<u8> {
+    argument_of(rng, word, big, text_bytes)
+}
+
+/// The same, with texts drawn otherwise.
+pub fn argument_of(rng: &mut Rng, word: u32, big: bool, text: Draw) -> Vec<u8> {
     let mut bytes = number(u128::from(word), 4, big);
-    bytes.extend(argument_body(rng, word, big));
+    bytes.extend(argument_body(rng, word, big, text));
     bytes
 }
 

@@ -6,7 +6,7 @@ use super::random::Rng;
 use super::{every_string, Emit, Section};
 
 /// Of each class of bytes that UTF-8 and the zero byte tell apart the first and the last, and an ordinary letter.
-const CLASSES: [u8; 26] = [
+pub const CLASSES: [u8; 26] = [
     0x00, 0x01, 0x41, 0x7f, 0x80, 0x8f, 0x90, 0x9f, 0xa0, 0xbf, 0xc0, 0xc1, 0xc2, 0xdf, 0xe0, 0xe1, 0xec, 0xed, 0xee,
     0xef, 0xf0, 0xf1, 0xf3, 0xf4, 0xf5, 0xff,
 ];
@@ -82,7 +82,7 @@ fn filter_of(id: [u8; 4]) -> Vec<u8> {
 }
 
 /// Its value as Rust's own reading of UTF-8 has it, padded with zero bytes.
-fn padded(id: &[u8]) -> [u8; 4] {
+pub fn padded(id: &[u8]) -> [u8; 4] {
     let before_zero = id.split(|&byte| byte == 0).next().unwrap_or_default();
     let length = std::str::from_utf8(before_zero).map_or_else(|error| error.valid_up_to(), str::len);
     let mut padded = [0; 4];

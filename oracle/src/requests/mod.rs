@@ -14,6 +14,7 @@ mod needs;
 pub mod random;
 mod signals;
 mod strings;
+mod why;
 
 use random::Rng;
 
@@ -30,7 +31,7 @@ pub struct Kind {
     random: fn(&mut Rng) -> String,
 }
 
-/// Every kind, in the order in which `all` goes through them.
+/// Every kind but those of `why`, in the order in which `all` goes through them.
 pub const KINDS: [Kind; 14] = [
     Kind { name: "zts", tiny: strings::TINY, sections: strings::SECTIONS, random: strings::random },
     Kind { name: "fwd", tiny: fields::FORWARD_TINY, sections: fields::FORWARD, random: fields::random_forward },
@@ -53,12 +54,22 @@ pub const KINDS: [Kind; 14] = [
     Kind { name: "bad", tiny: bad::TINY, sections: bad::SECTIONS, random: bad::random },
 ];
 
-/// The kinds that a word names: one of them, or `all`.
+/// The kinds that `why` names: requests of the kinds above, and others, with `why` in front.
+pub const WHY: [Kind; 4] = [
+    Kind { name: "why-zts", tiny: why::STRINGS_TINY, sections: why::STRINGS, random: why::random_string },
+    Kind { name: "why-msg", tiny: why::MESSAGES_TINY, sections: why::MESSAGES, random: why::random_message },
+    Kind { name: "why-args", tiny: why::SIGNALS_TINY, sections: why::SIGNALS, random: why::random_signals },
+    Kind { name: "why-ids", tiny: why::IDS_TINY, sections: why::IDS, random: why::random_ids },
+];
+
+/// The kinds that a word names: one of them, `why` or `all`.
 pub fn kinds(word: &str) -> Result<Vec<&'static Kind>, String> {
-    let named: Vec<&Kind> = KINDS.iter().filter(|kind| word == "all" || word == kind.name).collect();
+    let every = || KINDS.iter().chain(&WHY);
+    let is_named = |kind: &&Kind| word == "all" || word == kind.name || word == "why" && kind.is_why();
+    let named: Vec<&Kind> = every().filter(is_named).collect();
     if named.is_empty() {
-        let names: Vec<&str> = KINDS.iter().map(|kind| kind.name).collect();
-        return Err(format!("no kind {word}; there are {} and all", names.join(", ")));
+        let names: Vec<&str> = every().map(|kind| kind.name).collect();
+        return Err(format!("no kind {word}; there are {}, why and all", names.join(", ")));
     }
     Ok(named)
 }
@@ -67,6 +78,10 @@ pub fn kinds(word: &str) -> Result<Vec<&'static Kind>, String> {
 const RANDOM_BY_DEFAULT: u64 = 20_000;
 
 impl Kind {
+    pub fn is_why(&self) -> bool {
+        WHY.iter().any(|kind| kind.name == self.name)
+    }
+
     /// Makes `count` requests: an even sample of the fixed part if it is larger
     /// than that, else all of it and random ones. With no count: the fixed part and some.
     pub fn make(&self, count: Option<u64>, seed: u64, emit: Emit) {

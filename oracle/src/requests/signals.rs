@@ -9,7 +9,7 @@ pub const TINY: &[Section] = &[good_kinds];
 pub const SECTIONS: &[Section] =
     &[every_kind, every_short_data, floats, short_strings, long_strings, sizes, two_words, bad_word_later];
 
-fn request(big: bool, words: &[u32], data: &[u8]) -> String {
+pub fn request(big: bool, words: &[u32], data: &[u8]) -> String {
     let order = if big { "B" } else { "L" };
     let words: Vec<String> = words.iter().map(|word| format!("{word:x}")).collect();
     let words = if words.is_empty() { "-".to_string() } else { words.join(",") };
@@ -73,7 +73,7 @@ fn floats(_: &mut Rng, emit: Emit) {
     }
 }
 
-fn sized(big: bool, size: usize, content: &[u8]) -> Vec<u8> {
+pub fn sized(big: bool, size: usize, content: &[u8]) -> Vec<u8> {
     let mut data = number(size as u128, 2, big);
     data.extend(content);
     data
@@ -152,7 +152,7 @@ fn bad_word_later(rng: &mut Rng, emit: Emit) {
 }
 
 /// Data for one word.
-fn signal(rng: &mut Rng, word: u32, big: bool) -> Vec<u8> {
+pub fn signal(rng: &mut Rng, word: u32, big: bool) -> Vec<u8> {
     match word & 0x7f0 {
         0x10 => rng.bytes(1),
         0x200 | 0x400 => {

@@ -27,7 +27,7 @@ pub const SECTIONS: &[Section] = &[
     long_texts,
 ];
 
-fn request(size: u64, bytes: &[u8]) -> String {
+pub fn request(size: u64, bytes: &[u8]) -> String {
     format!("zts {size} {}", hex(bytes))
 }
 

@@ -7,7 +7,8 @@ use Rattle.numbers.proofs.put_extended_at.Tie as tie
 
 pub put-extended-at-spec : {M : Type 1} → statement M
 put-extended-at-spec =
-    let closed = tie.spec
+    tie.close
+    (tie.spec
     (λ c κs. search needs)
     (λ c. search needs)
     (λ c κs. search needs)
@@ -19,10 +20,11 @@ put-extended-at-spec =
     (λ c. search needs)
     (λ c. search needs)
     (λ c. search needs)
+    (λ c κs. search needs)
+    (λ c κs. search needs)
     (λ c κs. search needs)
     (λ c κs. search needs)
     (λ c. search needs)
     (λ c. search outlined depth 20)
     (λ c. search needs)
-    (λ c. search outlined depth 20)
-    in tie.close closed
+    (λ c. search outlined depth 20))

@@ -7,11 +7,12 @@ use Rattle.numbers.proofs.put_item.Tie as tie
 
 pub put-item-spec : {M : Type 1} → statement M
 put-item-spec =
-    tie.close
-    (tie.spec
+    let closed = tie.spec
+    (λ c κs. search needs)
     (λ c κs. search needs)
     (λ c κs. search needs)
     (λ c κs. search needs)
     (λ c. search needs)
     (λ c. search rows depth 20)
-    (λ c. search rows depth 20))
+    (λ c. search rows depth 20)
+    in tie.close closed

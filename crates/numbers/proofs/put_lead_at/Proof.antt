@@ -7,8 +7,7 @@ use Rattle.numbers.proofs.put_lead_at.Tie as tie
 
 pub put-lead-at-spec : {M : Type 1} → statement M
 put-lead-at-spec =
-    tie.close
-    (tie.spec
+    let closed = tie.spec
     (λ c κs. search needs)
     (λ c. search needs)
     (λ c κs. search needs)
@@ -16,4 +15,5 @@ put-lead-at-spec =
     (λ c. search needs)
     (λ c κs. search needs)
     (λ c. search needs)
-    (λ c. search outlined depth 20))
+    (λ c. search outlined depth 20)
+    in tie.close closed

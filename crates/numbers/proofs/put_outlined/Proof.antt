@@ -14,6 +14,7 @@ put-outlined-spec =
     (λ c κs. search needs)
     (λ c κs. search needs)
     (λ c κs. search needs)
+    (λ c κs. search needs)
     (λ c. search needs)
     (λ c. search outlined depth 20)
     (λ c. search outlined depth 20)

@@ -1,7 +1,7 @@
 -- `numbers::put_standard_at` meets its contract: `search` goes through the rule as the code does.
 -- Assumes nothing.
 use borrow.Author.Needs.{needs}
-use Rattle.numbers.proofs.Outlined.{standard-row-there}
+use Rattle.numbers.proofs.Outlined.{standard-row-there, ecu-end-there}
 use Rattle.numbers.proofs.put_standard_at.Statement.{statement}
 use Rattle.numbers.proofs.put_standard_at.Tie as tie
 
@@ -18,4 +18,4 @@ put-standard-at-spec =
     (λ c κs. search needs)
     (λ c κs. search needs)
     (λ c. search needs)
-    (λ c. standard-row-there _ _ _ _ _ _ _ _ _ _ _ (c .before .before .before .before .before .before .before .before .before .before .before .before .before .before .before .before .before .before .before .before .pre .0) (c .before .before .before .before .before .before .before .before .before .before .before .before .before .before .before .before .before .«behind-if» .ensures .0) (c .before .before .before .before .before .before .before .before .before .before .before .before .before .before .before .before .«behind-if2» .ensures .0) (c .before .before .before .before .before .before .before .before .before .before .before .before .before .before .«put-front-at» .ensures) (c .before .before .before .before .before .before .before .before .before .before .«put-range-if» .ensures) (c .before .before .before .before .before .before .«put-num-if» .ensures) (c .before .before .«put-num-if2» .ensures)))
+    (λ c. (standard-row-there _ _ _ _ _ _ _ _ _ _ _ (c .before .before .before .before .before .before .before .before .before .before .before .before .before .before .before .before .before .before .before .before .pre .0) (c .before .before .before .before .before .before .before .before .before .before .before .before .before .before .before .before .before .«behind-if» .ensures .0) (c .before .before .before .before .before .before .before .before .before .before .before .before .before .before .before .before .«behind-if2» .ensures .0) (c .before .before .before .before .before .before .before .before .before .before .before .before .before .before .«put-front-at» .ensures) (c .before .before .before .before .before .before .before .before .before .before .«put-text-if» .ensures .0) (c .before .before .before .before .before .before .«put-num-if» .ensures) (c .before .before .«put-num-if2» .ensures), ecu-end-there _ _ _ _ _ (c .before .before .before .before .before .before .before .before .before .before .«put-text-if» .ensures .1))))

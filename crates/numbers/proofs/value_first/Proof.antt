@@ -140,7 +140,7 @@ returns-15 : tie.Need-returns-15
 returns-15 c = search needs
 
 returns-16 : tie.Need-returns-16
-returns-16 c = search needs
+returns-16 c = sym (ap valueFirst (c .before .v16 .given .1))
 
 returns-17 : tie.Need-returns-17
 returns-17 c = search needs

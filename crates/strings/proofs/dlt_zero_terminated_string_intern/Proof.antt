@@ -2,6 +2,7 @@
 -- Assumes nothing.
 use borrow.Author.Needs.{needs}
 use Rattle.strings.proofs.Strings.{texts}
+use Rattle.strings.proofs.Reasons.{no-longer}
 use Rattle.strings.proofs.dlt_zero_terminated_string_intern.Statement.{statement}
 use Rattle.strings.proofs.dlt_zero_terminated_string_intern.Tie as tie
 
@@ -24,5 +25,6 @@ dlt-zero-terminated-string-intern-spec =
     returns
     returns-2
     (λ c κs. search needs)
+    (λ c κs. search (needs, no-longer))
     (λ c. search needs)
     returns-3)
