@@ -67,9 +67,12 @@ fn maybe_parse_ecu_id(s: &[u8], at: usize, present: bool) -> OptTextAns
     if present {
         match strings::identifier(s, at) {
             TextAns::Done(id) => {
+                // part by part: a copy of the whole would read the reason's one byte as eight, and wait for it (docs/DECISIONS.md)
                 let text = id.v;
+                let place = text.place;
+                let ended = text.ended;
                 OptTextAns::Done(GotOptText {
-                    v: OptText::Present(text),
+                    v: OptText::Present(Text { place, ended }),
                     next: id.next,
                 })
             }

@@ -1,5 +1,5 @@
 -- The groups straight from the bytes, as the code puts them: the lemmas for `search`. Assumes nothing.
-use Prim.Native.Nat.{ℕ, zero, suc, _+_, _-_, _/_, _%_, _≤_, _<_}
+use Prim.Native.Nat.{ℕ, zero, suc, _+_, _-_, _*_, _/_, _%_, _≤_, _<_}
 use native.Mathlib.Omega.{arith}
 use mathlib.Core.Path.{_≡_, refl, sym, ap, ap₂, _∙_}
 use mathlib.Core.Bool.{Bool, true, false}
@@ -9,19 +9,17 @@ use lib.Dec.{leb, eqb}
 use borrow.Author.Tests.{le-leb, lt-leb}
 use Rattle.table.specs.Over.{over}
 use Rattle.wire.specs.Parser.{pick}
-use Rattle.wire.specs.Number.{numberOf, number, u32Ans}
+use Rattle.wire.specs.Number.{numberOf}
 use Rattle.wire.specs.Run.{range, textAns}
 use Rattle.wire.specs.declared.Range.{Range}
 use Rattle.wire.specs.declared.Ended.{Ended}
 use Rattle.wire.specs.declared.Text.{Text}
 use Rattle.wire.specs.declared.TextAns.{TextAns}
 use Rattle.wire.specs.declared.GotText.{GotText}
-use Rattle.wire.specs.declared.U32Ans.{U32Ans}
-use Rattle.wire.specs.declared.GotU32.{GotU32}
 use Rattle.wire.proofs.Step.{told}
 use Rattle.strings.specs.Text.{letter, textOf, endedText, identified}
-use Rattle.strings.proofs.Strings.{letters-all}
-use Rattle.strings.proofs.Reasons.{ended-size}
+use Rattle.strings.proofs.Strings.{letters-three, letters-four, letters-all, letters-end}
+use Rattle.strings.proofs.Reasons.{ended-size, ended-zero}
 use Rattle.headertype.specs.Bits.{flag}
 use Rattle.headertype.specs.HeaderType.{allHeaders}
 use Rattle.headertype.specs.declared.Endianness.{Endianness}
@@ -35,7 +33,7 @@ use Rattle.payload.specs.declared.PayloadContent.{PayloadContent}
 use Rattle.parse.specs.Message.{itemOf}
 use Rattle.outline.specs.There.{behind, idIf, numberIf, standardAt, extendedPlace, extendedAt, extendedIf, storedAt}
 use Rattle.outline.specs.declared.Outline.{Outline}
-use Rattle.outline.proofs.There.{number-there, id-there}
+use Rattle.outline.proofs.There.{id-there}
 use Rattle.numbers.specs.Layout.{oneIf, orderNumber, textNumbers, numNumbers, storageNumbers, frontNumbers, standardNumbers, extendedNumbers, payloadNumbers, endedNumber, textEnd, storedEnd, applicationEnd, contextEnd, endNumbers, leadNumbers}
 use Rattle.numbers.specs.Outlined.{outlinedItem, outlinedLaid}
 use Rattle.numbers.proofs.Rows.{ends-row, standard-row, lead-row, item-row, message-short}
@@ -48,13 +46,21 @@ module _ (s : List ℕ) (at : ℕ) where
       let e : at + 0 ≡ at = omega arith in
       rw e (omega arith)
 
-  pub word-read : (big : Bool) (x : U32Ans) (g : GotU32) → at + 4 ≤ length s → u32Ans x ≡ number big 4 s at → x ≡ U32Ans.Done g → g .v ≡ numberOf big 4 s at
-  word-read big x g h e q = sym (same-value (sym (told u32Ans e q) ∙ number-there s at big 4 h) .0)
+  -- a to d are the bytes, as a call widened them
+  module _ (a b c d : ℕ) (ea : a ≡ getD s at 0) (eb : b ≡ getD s (at + 1) 0) (ec : c ≡ getD s (at + 2) 0) (ed : d ≡ getD s (at + 3) 0) where
+    pub word-big : (t : Bool) → t ≡ true → a * 16777216 + b * 65536 + c * 256 + d ≡ numberOf t 4 s at
+    unfolding numberOf
+    word-big t z =
+        let e : at + 0 ≡ at = omega arith in
+        rw (z, e) (omega (arith, ea, eb, ec, ed))
 
-  pub word-missing : (big : Bool) (x : U32Ans) (n : ℕ) → at + 4 ≤ length s → u32Ans x ≡ number big 4 s at → x ≡ U32Ans.Need n → 0 ≡ numberOf big 4 s at
-  word-missing big x n h e q = no-need (sym (told u32Ans e q) ∙ number-there s at big 4 h)
+    pub word-little : (t : Bool) → t ≡ false → a + b * 256 + c * 65536 + d * 16777216 ≡ numberOf t 4 s at
+    unfolding numberOf
+    word-little t z =
+        let e : at + 0 ≡ at = omega arith in
+        rw (z, e) (omega (arith, ea, eb, ec, ed))
 
-  pub id-read : (x : TextAns) (g : GotText) → at + 4 ≤ length s → textAns x ≡ identified s at → x ≡ TextAns.Done g → g .v ≡ endedText 4 s at
+  pub id-read : (x : TextAns) (g : GotText) → at + 4 ≤ length s → textAns x ≡ identified s at → x ≡ TextAns.Done g → record { place = g .v .place; ended = g .v .ended } ≡ endedText 4 s at
   id-read x g h e q = sym (same-value (sym (told textAns e q) ∙ id-there s at h) .0)
 
   pub id-missing : (x : TextAns) (n : ℕ) → at + 4 ≤ length s → textAns x ≡ identified s at → x ≡ TextAns.Need n → record { place = range at 0; ended = Ended.Size } ≡ endedText 4 s at
@@ -69,19 +75,18 @@ module _ (b : ℕ) where
   letter-else h = rw (le-leb 1 b (omega (arith, h)))
 
 -- a to d are what calls gave for the four bytes
-pub letters-four : (s : List ℕ) (at : ℕ) (a b c d : Bool) → a ≡ letter (getD s at 0) → a ≡ true → b ≡ letter (getD s (at + 1) 0) → b ≡ true → c ≡ letter (getD s (at + 2) 0) → c ≡ true → d ≡ letter (getD s (at + 3) 0) → d ≡ true
-    → record { place = range at 4; ended = Ended.Size } ≡ endedText 4 s at
-unfolding endedText textOf
-letters-four s at a b c d ea ta eb tb ec tc ed td =
-    let n : 4 ≡ textOf 4 s at .len = letters-all s at 4 4 refl (omega arith, each) in
-    ap₂ (λ (k : ℕ) (w : Ended). record { place = range at k; ended = w }) n (ended-size 4 s at 4 n refl)
-  where
-    each : (i : ℕ) → i < 4 → letter (getD s (at + i) 0) ≡ true
-    each zero h = let z : at + 0 ≡ at = omega arith in rw z (sym ea ∙ ta)
-    each (suc zero) h = sym eb ∙ tb
-    each (suc (suc zero)) h = sym ec ∙ tc
-    each (suc (suc (suc zero))) h = sym ed ∙ td
-    each (suc (suc (suc (suc i)))) h = absurd (omega arith)
+module _ (s : List ℕ) (at : ℕ) (a b c : Bool) (ea : a ≡ letter (getD s at 0)) (ta : a ≡ true) (eb : b ≡ letter (getD s (at + 1) 0)) (tb : b ≡ true) (ec : c ≡ letter (getD s (at + 2) 0)) (tc : c ≡ true) where
+  pub four-letters : (d : Bool) → d ≡ letter (getD s (at + 3) 0) → d ≡ true → record { place = range at 4; ended = Ended.Size } ≡ endedText 4 s at
+  unfolding endedText textOf
+  four-letters d ed td =
+      let n : 4 ≡ textOf 4 s at .len = letters-all s at 4 4 refl (letters-four s at a ea ta b eb tb c ec tc d ed td) in
+      ap₂ (λ (k : ℕ) (w : Ended). record { place = range at k; ended = w }) n (ended-size 4 s at 4 n refl)
+
+  pub three-letters : getD s (at + 3) 0 ≡ 0 → record { place = range at 3; ended = Ended.Zero } ≡ endedText 4 s at
+  unfolding endedText textOf
+  three-letters z =
+      let n : 3 ≡ textOf 4 s at .len = letters-end s at 4 3 (λ e. omega (arith, e)) z (letters-three s at a ea ta b eb tb c ec tc) in
+      ap₂ (λ (k : ℕ) (w : Ended). record { place = range at k; ended = w }) n (ended-zero 4 s at 3 n (λ e. omega (arith, e)) z)
 
 pub behind-four : (t : Bool) (at : ℕ) → t ≡ true → at + 4 ≡ behind t at
 behind-four t at e = rw e
@@ -220,4 +225,4 @@ module _ (T : List ℕ) (s : List ℕ) (o : Outline) (p : PayloadContent) (l : �
       (q3 ∙ ap (λ (m : ℕ). applicationEnd (place m)) e) (q4 ∙ ap (λ (m : ℕ). contextEnd (place m)) e) p4)
       ∙ rw (le-leb 42 (length s - o .place) (rw (← is-left) h))
 
-pub ruleset outlined = (byte-there, letter-zero, letter-else, letters-four, word-read, word-missing, id-read, id-missing, behind-four, behind-none, behind-three, text-there, text-none, num-there, num-none, extended-row-there, extended-row-none, end-there, end-none, application-there, application-none, context-there, context-none, stored-end-there, ecu-end-there, stored-row-there, front-row-there, standard-row-there, lead-row-there, outlined-lacks, outlined-short, outlined-row)
+pub ruleset outlined = (byte-there, letter-zero, letter-else, four-letters, three-letters, word-big, word-little, id-read, id-missing, behind-four, behind-none, behind-three, text-there, text-none, num-there, num-none, extended-row-there, extended-row-none, end-there, end-none, application-there, application-none, context-there, context-none, stored-end-there, ecu-end-there, stored-row-there, front-row-there, standard-row-there, lead-row-there, outlined-lacks, outlined-short, outlined-row)

@@ -50,7 +50,6 @@ use wire::Ended;
 use wire::Range;
 use wire::Text;
 use wire::TextAns;
-use wire::U32Ans;
 
 // ---- some numbers in a row, from place `at` on
 
@@ -477,14 +476,26 @@ fn byte_at(s: &[u8], at: usize) -> u8
     s[at]
 }
 
-// The 32 bits at a place.
+// A byte as a number of 32 bits.
+fn wide(b: u8) -> u32
+    ensures { λ r. ⌜ (r ≡ b) × (r < 256) ⌝ }
+{
+    b as u32
+}
+
+// The 32 bits at a place, which are there.
 fn word_at(s: &[u8], at: usize, big: bool) -> u32
     requires { ⌜ at + 4 ≤ length (now s) ⌝ }
     ensures { λ r. ⌜ r ≡ numberOf big 4 (now (s .entry)) at ⌝ }
 {
-    match wire::parse_u32(s, at, big) {
-        U32Ans::Done(four) => four.v,
-        U32Ans::Need(_) => 0,
+    let a = wide(s[at]);
+    let b = wide(s[at + 1]);
+    let c = wide(s[at + 2]);
+    let d = wide(s[at + 3]);
+    if big {
+        a * 16777216 + b * 65536 + c * 256 + d
+    } else {
+        a + b * 256 + c * 65536 + d * 16777216
     }
 }
 
@@ -505,7 +516,12 @@ fn any_id_at(s: &[u8], at: usize) -> Text
     ensures { λ r. ⌜ r ≡ endedText 4 (now (s .entry)) at ⌝ }
 {
     match strings::identifier(s, at) {
-        TextAns::Done(id) => id.v,
+        TextAns::Done(id) => {
+            let text = id.v;
+            let place = text.place;
+            let ended = text.ended;
+            Text { place, ended }
+        }
         TextAns::Need(_) => Text {
             place: Range { start: at, len: 0 },
             ended: Ended::Size,
@@ -513,7 +529,7 @@ fn any_id_at(s: &[u8], at: usize) -> Text
     }
 }
 
-// The same. Most are four letters.
+// The same. Most are four letters, or three and a zero byte.
 fn id_at(s: &[u8], at: usize) -> Text
     requires { ⌜ at + 4 ≤ length (now s) ⌝ }
     ensures { λ r. ⌜ r ≡ endedText 4 (now (s .entry)) at ⌝ }
@@ -525,6 +541,12 @@ fn id_at(s: &[u8], at: usize) -> Text
                     return Text {
                         place: Range { start: at, len: 4 },
                         ended: Ended::Size,
+                    };
+                }
+                if s[at + 3] == 0 {
+                    return Text {
+                        place: Range { start: at, len: 3 },
+                        ended: Ended::Zero,
                     };
                 }
             }

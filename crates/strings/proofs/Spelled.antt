@@ -165,6 +165,38 @@ module _ (n : ℕ) (s : List ℕ) (at : ℕ) where
           let x : sequence n s at ≡ suc w = between (before0 n s at) n s at (suc w) q (omega arith) (omega (arith, before0-le n s at)) in
           absurd (omega (arith, x, e))
 
+-- ---- a string of any size: k bytes of its value are told, and the rest is that of the bytes behind them
+abbrev pub Told : List ℕ → ℕ → ℕ → ℕ → Type 0
+Told s at n k = (k ≤ n) × (valued n s at ≡ k + valued (n - k) s (at + k))
+
+module _ (s : List ℕ) (at n : ℕ) where
+  pub told-none : Told s at n 0
+  told-none =
+      let a : at + 0 ≡ at = omega arith in
+      let b : n - 0 ≡ n = omega arith in
+      (omega arith, rw (a, b) (omega arith))
+
+  module _ (k : ℕ) (l : k < n) (h : Told s at n k) where
+    pub told-zero : getD s (at + k) 0 ≡ 0 → k ≡ valued n s at
+    told-zero z = omega (arith, h .1, valued-zero (n - k) s (at + k) (omega arith) z)
+
+    pub told-stop : (w : ℕ) → w ≡ sequence (n - k) s (at + k) → w ≡ 0 → k ≡ valued n s at
+    told-stop w e z = omega (arith, h .1, valued-none (n - k) s (at + k) (sym e ∙ z))
+
+    pub told-more : (w : ℕ) → (getD s (at + k) 0 ≡ 0 → ⊥) → w ≡ sequence (n - k) s (at + k) → (w ≡ 0 → ⊥) → Told s at n (k + w)
+    told-more w z e p =
+        let a : at + k + w ≡ at + (k + w) = omega arith in
+        let b : n - k - w ≡ n - (k + w) = omega arith in
+        let m : valued (n - k) s (at + k) ≡ w + valued (n - (k + w)) s (at + (k + w)) = rw (a, b) at (valued-more (n - k) s (at + k) w z e (omega (arith, p))) in
+        (omega (arith, e, sequence-le (n - k) s (at + k)), omega (arith, h .1, m))
+
+  pub told-all : (k : ℕ) → n ≤ k → Told s at n k → k ≡ valued n s at
+  told-all k l h =
+      let z : n - k ≡ 0 = omega (arith, h .0) in
+      omega (arith, h .1, text-within (n - k) s (at + k))
+
+pub ruleset from-the-front = (told-none, told-zero, told-stop, told-more, told-all)
+
 -- ---- the steps: k bytes of an identifier's value are told, and the next one stands at p
 abbrev told : ℕ → List ℕ → ℕ → ℕ
 told k s at = k + valued (4 - k) s (at + k)

@@ -127,14 +127,21 @@ pub is-letter : (b : ℕ) → (b ≡ 0 → ⊥) → b ≤ 0x7F → letter b ≡ 
 is-letter b z h = rw (le-leb 1 b (omega (arith, z)), le-leb b 0x7F h)
 
 module _ (s : List ℕ) (at n : ℕ) where
-  pub letters-more : (k : ℕ) → k < n → (getD s (at + k) 0 ≡ 0 → ⊥) → getD s (at + k) 0 ≤ 0x7F → Letters s at n k → Letters s at n (k + 1)
-  letters-more k l z h p = (omega arith, λ i j. by i j (leb k i) refl)
+  pub letters-none : Letters s at n 0
+  letters-none = (zero-le, λ i h. absurd (not-suc-le-zero h))
+
+  -- t is what a call said of the next byte
+  pub letters-more : (k : ℕ) (t : Bool) → k < n → t ≡ letter (getD s (at + k) 0) → t ≡ true → Letters s at n k → Letters s at n (k + 1)
+  letters-more k t l e z p = (omega arith, λ i j. by i j (leb k i) refl)
     where
-      by : (i : ℕ) → i < k + 1 → (t : Bool) → leb k i ≡ t → letter (getD s (at + i) 0) ≡ true
-      by i j true e =
-          let q : k ≡ i = omega (arith, leb-true k i e) in
-          rw (← q) (is-letter _ z h)
-      by i j false e = p .1 i (omega (arith, leb-false k i e))
+      by : (i : ℕ) → i < k + 1 → (u : Bool) → leb k i ≡ u → letter (getD s (at + i) 0) ≡ true
+      by i j true q =
+          let same : k ≡ i = omega (arith, leb-true k i q) in
+          rw (← same) (sym e ∙ z)
+      by i j false q = p .1 i (omega (arith, leb-false k i q))
+
+  pub letters-on : (k : ℕ) → k < n → (getD s (at + k) 0 ≡ 0 → ⊥) → getD s (at + k) 0 ≤ 0x7F → Letters s at n k → Letters s at n (k + 1)
+  letters-on k l z h p = letters-more k true l (sym (is-letter _ z h)) refl p
 
   fewer-letters : (k : ℕ) → Letters s at n (suc k) → Letters s at n k
   fewer-letters k p = (omega (arith, p .0), λ i h. p .1 i (omega arith))
@@ -153,6 +160,24 @@ module _ (s : List ℕ) (at n : ℕ) where
       let q : suc k ≡ k + 1 = omega arith in
       rw q (valid-more s at n k 1 (omega (arith, p .0)) (one-letter (n - k) s (at + k) (omega (arith, p .0)) (b .1)) (λ e. omega (arith, e)) (letters-valid k (fewer-letters k p)))
 
+-- the letters at the front of four bytes: a to d are what calls said of the bytes
+module _ (s : List ℕ) (at : ℕ) (a : Bool) (ea : a ≡ letter (getD s at 0)) (ta : a ≡ true) where
+  pub letters-one : Letters s at 4 1
+  letters-one =
+      let z : at + 0 ≡ at = omega arith in
+      letters-more s at 4 0 a (omega arith) (rw z ea) ta (letters-none s at 4)
+
+  module _ (b : Bool) (eb : b ≡ letter (getD s (at + 1) 0)) (tb : b ≡ true) where
+    pub letters-two : Letters s at 4 2
+    letters-two = letters-more s at 4 1 b (omega arith) eb tb letters-one
+
+    module _ (c : Bool) (ec : c ≡ letter (getD s (at + 2) 0)) (tc : c ≡ true) where
+      pub letters-three : Letters s at 4 3
+      letters-three = letters-more s at 4 2 c (omega arith) ec tc letters-two
+
+      pub letters-four : (d : Bool) → d ≡ letter (getD s (at + 3) 0) → d ≡ true → Letters s at 4 4
+      letters-four d ed td = letters-more s at 4 3 d (omega arith) ed td letters-three
+
 module _ (s : List ℕ) (at n : ℕ) where
   all-valid : (k : ℕ) → Letters s at n k → validUpTo k s at ≡ k
   all-valid k p = sym (valid-all s at k k k (omega arith) refl (letters-valid s at k k (omega arith, p .1)))
@@ -168,13 +193,6 @@ module _ (s : List ℕ) (at n : ℕ) where
   unfolding textOf
   letters-end k z e p =
       rw (← passed-found s at n k (omega (arith, z, p .0)) e (letters-passed s at n k p)) (sym (all-valid k p))
-
-  -- the general way: z is what `before_zero` found, v what `valid_up_to` found
-  pub content-is : (z v : ℕ) → n ≤ length s - at → z ≡ before0 n s at → v ≡ validUpTo (least z (length s - at)) s at → v ≡ textOf n s at .len
-  unfolding textOf
-  content-is z v h e f =
-      let k : z ≤ n = rw e (before0-le n s at) in
-      rw (le-leb z (length s - at) (omega arith), e) at f
 
 -- ---- the answers, as the code has them: l is what is left, z what `before_zero` found, and v what `content` found
 module _ (n : ℕ) (s : List ℕ) (at l : ℕ) (is-left : l ≡ length s - at) where

@@ -194,7 +194,26 @@ fn letters(s: &[u8], at: usize, n: usize) -> usize
     k
 }
 
-// The length of a string's value, where its `n` bytes are there.
+// The length of a string's value, where its `n` bytes are there: told from the front, up to a zero byte or the first bytes that are no UTF-8.
+fn value_up_to(s: &[u8], at: usize, n: usize) -> usize
+    requires { ⌜ n ≤ length (now s) - at ⌝ }
+    ensures { λ r. ⌜ r ≡ textOf n (now (s .entry)) at .len ⌝ }
+{
+    let mut k: usize = 0;
+    while k < n {
+        if s[at + k] == 0 {
+            return k;
+        }
+        let w = sequence_at(s, at + k, n - k);
+        if w == 0 {
+            return k;
+        }
+        k += w;
+    }
+    k
+}
+
+// The same. Most strings are letters, up to their end or to a zero byte.
 fn content(s: &[u8], at: usize, n: usize) -> usize
     requires { ⌜ n ≤ length (now s) - at ⌝ }
     ensures { λ r. ⌜ r ≡ textOf n (now (s .entry)) at .len ⌝ }
@@ -206,8 +225,7 @@ fn content(s: &[u8], at: usize, n: usize) -> usize
     if s[at + plain] == 0 {
         return plain;
     }
-    let before = before_zero(s, at, n);
-    valid_up_to(s, at, before)
+    value_up_to(s, at, n)
 }
 
 // Why a string of `n` bytes ended whose value has `len` of them: at its size, if the value fills it; else the byte behind the value tells.

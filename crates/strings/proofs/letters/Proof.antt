@@ -4,7 +4,7 @@ use Prim.Native.Nat.{_-_, zero-le}
 use native.Mathlib.Nat.{not-suc-le-zero}
 use borrow.Author.Needs.{needs}
 use Rattle.strings.specs.Text.{Letters}
-use Rattle.strings.proofs.Strings.{letters-more}
+use Rattle.strings.proofs.Strings.{letters-on}
 use Rattle.strings.proofs.letters.Statement.{statement}
 use Rattle.strings.proofs.letters.Tie as tie
 use Rattle.strings.proofs.letters.Reads as reads
@@ -44,7 +44,7 @@ loop-less : tie.Need-loop-less Inv-loop μ-loop
 loop-less c = search needs
 
 loop-again : tie.Need-loop-again Inv-loop μ-loop
-loop-again c = search letters-more depth 20
+loop-again c = search letters-on depth 20
 
 returns-3 : tie.Need-returns-3 Inv-loop μ-loop
 returns-3 c = search needs

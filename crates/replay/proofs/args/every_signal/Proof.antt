@@ -4,10 +4,10 @@ use Rattle.replay.proofs.args.every_signal.Statement.{statement}
 use Rattle.replay.proofs.args.every_signal.Tie as tie
 
 abbrev Inv-loop : tie.InvT-loop
-Inv-loop out₀ at words s big done₀ rest₀ left₀ out done rest left = Unit {0}
+Inv-loop out₀ at words s big why done₀ rest₀ left₀ out done rest left = Unit {0}
 
 abbrev μ-loop : tie.MeasureT-loop
-μ-loop out₀ at words s big done₀ rest₀ left₀ out done rest left = left
+μ-loop out₀ at words s big why done₀ rest₀ left₀ out done rest left = left
 
 pub every-signal-spec : {M : Type 1} → statement M
 every-signal-spec =

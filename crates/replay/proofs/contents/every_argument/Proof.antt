@@ -4,10 +4,10 @@ use Rattle.replay.proofs.contents.every_argument.Statement.{statement}
 use Rattle.replay.proofs.contents.every_argument.Tie as tie
 
 abbrev Inv-loop : tie.InvT-loop
-Inv-loop out₀ at s done₀ rest₀ left₀ out done rest left = Unit {0}
+Inv-loop out₀ at s why done₀ rest₀ left₀ out done rest left = Unit {0}
 
 abbrev μ-loop : tie.MeasureT-loop
-μ-loop out₀ at s done₀ rest₀ left₀ out done rest left = left
+μ-loop out₀ at s why done₀ rest₀ left₀ out done rest left = left
 
 pub every-argument-spec : {M : Type 1} → statement M
 every-argument-spec =
