@@ -8,13 +8,13 @@ use mathlib.Core.Bool.{Bool, true, false, _&&_}
 use mathlib.Core.List.{List, [], _∷_}
 use lib.ListN.{length, getD}
 use lib.Dec.{leb, eqb}
-use borrow.Author.Tests.{lt-ltb, le-ltb, leb-true, leb-false, eqb-true, eqb-false}
+use borrow.Author.Tests.{le-leb, lt-ltb, le-ltb, leb-true, leb-false, eqb-true, eqb-false}
 use Rattle.wire.specs.Answer.Ans.{done, need}
 use Rattle.wire.specs.Parser.{pick}
 use Rattle.wire.specs.Run.{range}
 use Rattle.wire.specs.declared.Ended.{Ended}
 use Rattle.wire.proofs.Step.{asking-need}
-use Rattle.strings.specs.Utf8.{Span, Row, table, inside, fits, formed, among, sequence, validUpTo}
+use Rattle.strings.specs.Utf8.{Span, Row, table, inside, fits, formed, among, sequence, validUpTo, least}
 use Rattle.strings.specs.Text.{before0, letter, textNeed, textOf, endedOf, text, identified}
 use Rattle.strings.proofs.Utf8.{sequence-le, valid-step, valid-stop, one-letter}
 use Rattle.strings.proofs.Longest.{between, prefix-within}
@@ -195,7 +195,13 @@ module _ (s : List ℕ) (at n : ℕ) where
       let z : n - k ≡ 0 = omega (arith, h .0) in
       omega (arith, h .1, text-within (n - k) s (at + k))
 
-pub ruleset from-the-front = (told-none, told-zero, told-stop, told-more, told-all)
+-- e is the lesser of the size and of what is left, as a call gave it
+pub told-of : (s : List ℕ) (at e n v : ℕ) → e ≡ n → v ≡ valued e s at → v ≡ valued n s at
+told-of s at e n v q h = h ∙ ap (λ (i : ℕ). valued i s at) q
+
+-- where all n bytes are there, the lesser is n
+pub told-whole : (s : List ℕ) (at n v : ℕ) → n ≤ length s - at → v ≡ valued (least n (length s - at)) s at → v ≡ valued n s at
+told-whole s at n v h e = e ∙ ap (λ (i : ℕ). valued i s at) (rw (le-leb n (length s - at) h))
 
 -- ---- the steps: k bytes of an identifier's value are told, and the next one stands at p
 abbrev told : ℕ → List ℕ → ℕ → ℕ

@@ -2,6 +2,7 @@
 -- Assumes nothing.
 use borrow.Author.Needs.{needs}
 use Rattle.strings.proofs.Strings.{letters-all, letters-end}
+use Rattle.strings.proofs.Spelled.{told-whole}
 use Rattle.strings.proofs.content.Statement.{statement}
 use Rattle.strings.proofs.content.Tie as tie
 
@@ -14,5 +15,5 @@ content-spec =
     (λ c. search needs)
     (λ c. search letters-end depth 20)
     (λ c κs. search needs)
-    (λ c. search needs)
+    (λ c. search told-whole depth 20)
     in tie.close closed
