@@ -11,7 +11,6 @@ use Rattle.table.specs.Over.{over}
 use Rattle.wire.specs.Parser.{pick}
 use Rattle.wire.specs.Number.{numberOf}
 use Rattle.wire.specs.Run.{range, textAns}
-use Rattle.wire.specs.declared.Range.{Range}
 use Rattle.wire.specs.declared.Ended.{Ended}
 use Rattle.wire.specs.declared.Text.{Text}
 use Rattle.wire.specs.declared.TextAns.{TextAns}
@@ -34,7 +33,7 @@ use Rattle.parse.specs.Message.{itemOf}
 use Rattle.outline.specs.There.{behind, idIf, numberIf, standardAt, extendedPlace, extendedAt, extendedIf, storedAt}
 use Rattle.outline.specs.declared.Outline.{Outline}
 use Rattle.outline.proofs.There.{id-there}
-use Rattle.numbers.specs.Layout.{oneIf, orderNumber, textNumbers, numNumbers, storageNumbers, frontNumbers, standardNumbers, extendedNumbers, payloadNumbers, endedNumber, textEnd, storedEnd, applicationEnd, contextEnd, endNumbers, leadNumbers}
+use Rattle.numbers.specs.Layout.{oneIf, orderNumber, textNumbers, numNumbers, storageNumbers, frontNumbers, standardNumbers, extendedNumbers, payloadNumbers, endedNumber, textEnd, storedEnd, applicationEnd, contextEnd, leadNumbers}
 use Rattle.numbers.specs.Outlined.{outlinedItem, outlinedLaid}
 use Rattle.numbers.proofs.Rows.{ends-row, standard-row, lead-row, item-row, message-short}
 

@@ -14,7 +14,6 @@ use Rattle.wire.specs.Parser.{pick, here, refuse, asking, having, lacking, ret,
 use Rattle.wire.specs.Number.{number, numeric}
 use Rattle.wire.specs.Run.{range, bytes}
 use Rattle.wire.specs.declared.Ended.{Ended}
-use Rattle.wire.specs.declared.Range.{Range}
 use Rattle.wire.specs.declared.Text.{Text}
 use Rattle.wire.proofs.Step.{then-done, then-need, then-hickup, then-broken, here-is, ret-is}
 use Rattle.strings.specs.Utf8.{validUpTo}

@@ -16,11 +16,10 @@ use Rattle.wire.specs.Run.{range, textAns}
 use Rattle.wire.specs.declared.Range.{Range}
 use Rattle.wire.specs.declared.TextAns.{TextAns}
 use Rattle.wire.specs.declared.GotText.{GotText}
-use Rattle.wire.specs.declared.Text.{Text}
 use Rattle.wire.specs.declared.Ended.{Ended}
 use Rattle.wire.proofs.Laws.{sized-law}
 use Rattle.wire.proofs.Step.{asking-done, asking-need}
-use Rattle.strings.specs.Utf8.{validUpTo, least}
+use Rattle.strings.specs.Utf8.{validUpTo}
 use Rattle.strings.specs.Text.{before0, letter, Letters, textNeed, textOf, endedOf, endedText, text, identified}
 use Rattle.strings.proofs.Utf8.{validUpTo-same, Valid, valid-none, valid-more, valid-all, one-letter}
 use Rattle.strings.proofs.Longest.{prefix-within}
