@@ -8,13 +8,13 @@ use mathlib.Core.Bool.{Bool, true, false, _&&_}
 use mathlib.Core.List.{List, [], _∷_}
 use lib.ListN.{length, getD}
 use lib.Dec.{leb, eqb}
-use borrow.Author.Tests.{le-leb, lt-ltb, le-ltb, leb-true, leb-false, eqb-true, eqb-false}
+use borrow.Author.Tests.{lt-ltb, le-ltb, leb-true, leb-false, eqb-true, eqb-false}
 use Rattle.wire.specs.Answer.Ans.{done, need}
 use Rattle.wire.specs.Parser.{pick}
 use Rattle.wire.specs.Run.{range}
 use Rattle.wire.specs.declared.Ended.{Ended}
 use Rattle.wire.proofs.Step.{asking-need}
-use Rattle.strings.specs.Utf8.{Span, Row, table, inside, fits, formed, among, sequence, validUpTo, least}
+use Rattle.strings.specs.Utf8.{Span, Row, table, inside, fits, formed, among, sequence, validUpTo}
 use Rattle.strings.specs.Text.{before0, letter, textNeed, textOf, endedOf, text, identified}
 use Rattle.strings.proofs.Utf8.{sequence-le, valid-step, valid-stop, one-letter}
 use Rattle.strings.proofs.Longest.{between, prefix-within}
@@ -164,44 +164,6 @@ module _ (n : ℕ) (s : List ℕ) (at : ℕ) where
           let l : suc w ≤ before0 n s at = rw (← q) (sequence-le (before0 n s at) s at) in
           let x : sequence n s at ≡ suc w = between (before0 n s at) n s at (suc w) q (omega arith) (omega (arith, before0-le n s at)) in
           absurd (omega (arith, x, e))
-
--- ---- a string of any size: k bytes of its value are told, and the rest is that of the bytes behind them
-abbrev pub Told : List ℕ → ℕ → ℕ → ℕ → Type 0
-Told s at n k = (k ≤ n) × (valued n s at ≡ k + valued (n - k) s (at + k))
-
-module _ (s : List ℕ) (at n : ℕ) where
-  pub told-none : Told s at n 0
-  told-none =
-      let a : at + 0 ≡ at = omega arith in
-      let b : n - 0 ≡ n = omega arith in
-      (omega arith, rw (a, b) (omega arith))
-
-  module _ (k : ℕ) (l : k < n) (h : Told s at n k) where
-    pub told-zero : getD s (at + k) 0 ≡ 0 → k ≡ valued n s at
-    told-zero z = omega (arith, h .1, valued-zero (n - k) s (at + k) (omega arith) z)
-
-    pub told-stop : (w : ℕ) → w ≡ sequence (n - k) s (at + k) → w ≡ 0 → k ≡ valued n s at
-    told-stop w e z = omega (arith, h .1, valued-none (n - k) s (at + k) (sym e ∙ z))
-
-    pub told-more : (w : ℕ) → (getD s (at + k) 0 ≡ 0 → ⊥) → w ≡ sequence (n - k) s (at + k) → (w ≡ 0 → ⊥) → Told s at n (k + w)
-    told-more w z e p =
-        let a : at + k + w ≡ at + (k + w) = omega arith in
-        let b : n - k - w ≡ n - (k + w) = omega arith in
-        let m : valued (n - k) s (at + k) ≡ w + valued (n - (k + w)) s (at + (k + w)) = rw (a, b) at (valued-more (n - k) s (at + k) w z e (omega (arith, p))) in
-        (omega (arith, e, sequence-le (n - k) s (at + k)), omega (arith, h .1, m))
-
-  pub told-all : (k : ℕ) → n ≤ k → Told s at n k → k ≡ valued n s at
-  told-all k l h =
-      let z : n - k ≡ 0 = omega (arith, h .0) in
-      omega (arith, h .1, text-within (n - k) s (at + k))
-
--- e is the lesser of the size and of what is left, as a call gave it
-pub told-of : (s : List ℕ) (at e n v : ℕ) → e ≡ n → v ≡ valued e s at → v ≡ valued n s at
-told-of s at e n v q h = h ∙ ap (λ (i : ℕ). valued i s at) q
-
--- where all n bytes are there, the lesser is n
-pub told-whole : (s : List ℕ) (at n v : ℕ) → n ≤ length s - at → v ≡ valued (least n (length s - at)) s at → v ≡ valued n s at
-told-whole s at n v h e = e ∙ ap (λ (i : ℕ). valued i s at) (rw (le-leb n (length s - at) h))
 
 -- ---- the steps: k bytes of an identifier's value are told, and the next one stands at p
 abbrev told : ℕ → List ℕ → ℕ → ℕ

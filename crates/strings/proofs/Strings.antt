@@ -19,7 +19,7 @@ use Rattle.wire.specs.declared.GotText.{GotText}
 use Rattle.wire.specs.declared.Ended.{Ended}
 use Rattle.wire.proofs.Laws.{sized-law}
 use Rattle.wire.proofs.Step.{asking-done, asking-need}
-use Rattle.strings.specs.Utf8.{validUpTo}
+use Rattle.strings.specs.Utf8.{validUpTo, least}
 use Rattle.strings.specs.Text.{before0, letter, Letters, textNeed, textOf, endedOf, endedText, text, identified}
 use Rattle.strings.proofs.Utf8.{validUpTo-same, Valid, valid-none, valid-more, valid-all, one-letter}
 use Rattle.strings.proofs.Longest.{prefix-within}
@@ -192,6 +192,13 @@ module _ (s : List ℕ) (at n : ℕ) where
   unfolding textOf
   letters-end k z e p =
       rw (← passed-found s at n k (omega (arith, z, p .0)) e (letters-passed s at n k p)) (sym (all-valid k p))
+
+  -- the general way: z is what `before_zero` found, v what `valid_up_to` found
+  pub content-is : (z v : ℕ) → n ≤ length s - at → z ≡ before0 n s at → v ≡ validUpTo (least z (length s - at)) s at → v ≡ textOf n s at .len
+  unfolding textOf
+  content-is z v h e f =
+      let k : z ≤ n = rw e (before0-le n s at) in
+      rw (le-leb z (length s - at) (omega arith), e) at f
 
 -- ---- the answers, as the code has them: l is what is left, z what `before_zero` found, and v what `content` found
 module _ (n : ℕ) (s : List ℕ) (at l : ℕ) (is-left : l ≡ length s - at) where

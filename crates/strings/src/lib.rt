@@ -194,28 +194,7 @@ fn letters(s: &[u8], at: usize, n: usize) -> usize
     k
 }
 
-// The length of the value of a string of the `n` bytes at `at`, or of as many as there are: told from the front, up to a zero byte or the first
-// bytes that are no UTF-8.
-pub fn value_up_to(s: &[u8], at: usize, n: usize) -> usize
-    ensures { λ r. ⌜ r ≡ textOf (least n (length (now (s .entry)) - at)) (now (s .entry)) at .len ⌝ }
-{
-    let rest = wire::left(s, at);
-    let end = fewer(n, rest);
-    let mut k: usize = 0;
-    while k < end {
-        if s[at + k] == 0 {
-            return k;
-        }
-        let w = sequence_at(s, at + k, end - k);
-        if w == 0 {
-            return k;
-        }
-        k += w;
-    }
-    k
-}
-
-// The length of a string's value, where its `n` bytes are there. Most strings are letters, up to their end or to a zero byte.
+// The length of a string's value, where its `n` bytes are there.
 fn content(s: &[u8], at: usize, n: usize) -> usize
     requires { ⌜ n ≤ length (now s) - at ⌝ }
     ensures { λ r. ⌜ r ≡ textOf n (now (s .entry)) at .len ⌝ }
@@ -227,7 +206,8 @@ fn content(s: &[u8], at: usize, n: usize) -> usize
     if s[at + plain] == 0 {
         return plain;
     }
-    value_up_to(s, at, n)
+    let before = before_zero(s, at, n);
+    valid_up_to(s, at, before)
 }
 
 // Why a string of `n` bytes ended whose value has `len` of them: at its size, if the value fills it; else the byte behind the value tells.

@@ -1,8 +1,7 @@
 -- `strings::content` meets its contract: `search` goes through the rule as the code does.
 -- Assumes nothing.
 use borrow.Author.Needs.{needs}
-use Rattle.strings.proofs.Strings.{letters-all, letters-end}
-use Rattle.strings.proofs.Spelled.{told-whole}
+use Rattle.strings.proofs.Strings.{letters-all, letters-end, content-is}
 use Rattle.strings.proofs.content.Statement.{statement}
 use Rattle.strings.proofs.content.Tie as tie
 
@@ -15,5 +14,6 @@ content-spec =
     (λ c. search needs)
     (λ c. search letters-end depth 20)
     (λ c κs. search needs)
-    (λ c. search told-whole depth 20)
+    (λ c κs. search needs)
+    (λ c. search content-is depth 20)
     in tie.close closed
