@@ -36,11 +36,17 @@ others (Value.F64NotANumber v) h = refl
 others (Value.StringVal v) h = refl
 others (Value.Raw r) h = absurd (miss tags 16 tt h)
 
-pub raw-of-spec : {M : Type 1} → statement M
+returns : tie.Need-returns
 unfolding rawOf
+returns c = rw (c .before .v .given .1)
+
+returns-2 : tie.Need-returns-2
+returns-2 c = others (c .before .args .v) (c .match .keys2)
+
+pub raw-of-spec : {M : Type 1} → statement M
 raw-of-spec =
     tie.close
     (tie.spec
     (λ c. search needs)
-    (λ c. rw (c .before .v .given .1))
-    (λ c. others (c .before .args .v) (c .match .keys2)))
+    returns
+    returns-2)
