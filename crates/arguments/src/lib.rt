@@ -235,7 +235,7 @@ fn sized_argument(
     })
 }
 
-// What follows the type info, by its kind.
+// What follows the type info, by its kind. A fixed point's answer has a name of its own, so that the others are written in place (docs/DECISIONS.md).
 fn argument_of(s: &[u8], at: usize, start: usize, info: TypeInfo, big: bool) -> ArgumentAns
     ensures { λ r. ⌜ argumentAns r ≡ kinded big start info (info .kind) (now (s .entry)) at ⌝ }
 {
@@ -246,14 +246,16 @@ fn argument_of(s: &[u8], at: usize, start: usize, info: TypeInfo, big: bool) -> 
         }
         TypeInfoKind::SignedFixedPoint(real) => {
             let whole = dlt::float_width_to_type_length(real);
-            scaled_argument(s, at, start, info, real, Numeric::Signed(whole), big)
+            let answer = scaled_argument(s, at, start, info, real, Numeric::Signed(whole), big);
+            answer
         }
         TypeInfoKind::Unsigned(whole) => {
             plain_argument(s, at, start, info, Numeric::Unsigned(whole), big)
         }
         TypeInfoKind::UnsignedFixedPoint(real) => {
             let whole = dlt::float_width_to_type_length(real);
-            scaled_argument(s, at, start, info, real, Numeric::Unsigned(whole), big)
+            let answer = scaled_argument(s, at, start, info, real, Numeric::Unsigned(whole), big);
+            answer
         }
         TypeInfoKind::Float(real) => plain_argument(s, at, start, info, Numeric::Float(real), big),
         TypeInfoKind::Raw => sized_argument(s, at, start, info, true, big),

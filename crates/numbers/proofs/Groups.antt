@@ -102,19 +102,19 @@ module _ (T A B C : List ℕ) (a : Argument) (fits : 26 ≤ length T) where
       three-groups T A B C (nameNumbers (a .name) (a .unit)) (pointNumbers (a .«fixed_point»)) (valueNumbers (a .value)) 10 16 20 p q r
       (omega (arith, names (a .name) (a .unit))) (omega (arith, points (a .«fixed_point»))) (omega arith)
 
-  -- x is what `flag` gave
-  pub handed-row : (D : List ℕ) (at left x : ℕ) (big : Bool) → x ≡ oneIf big → A ≡ over T 0 (at ∷ left ∷ x ∷ []) → B ≡ over A 3 (typeNumbers a) → C ≡ over B 10 (contentNumbers a)
-      → D ≡ over C 23 (argumentEnds a) → D ≡ over T 0 (argumentNumbers at left big a)
-  unfolding argumentNumbers
-  handed-row D at left x big e p q r s =
-      let v : List ℕ = at ∷ left ∷ oneIf big ∷ [] in
-      four-groups T A B C D v (typeNumbers a) (contentNumbers a) (argumentEnds a) 0 3 10 23 (p ∙ rw e) q r s refl (omega (arith, types a)) (omega (arith, contents a)) (omega arith)
+-- x is what `flag` gave
+pub cursor-row : (T X : List ℕ) (at left x : ℕ) (big : Bool) → x ≡ oneIf big → X ≡ over T 0 (at ∷ left ∷ x ∷ []) → X ≡ over T 0 (at ∷ left ∷ oneIf big ∷ [])
+cursor-row T X at left x big e h = h ∙ rw e
 
 -- ---- the whole, where it fits and where it doesn't
-module _ (T X : List ℕ) (at left : ℕ) (big : Bool) (a : Argument) where
-  pub argument-fits : 26 ≤ length T → X ≡ over T 0 (argumentNumbers at left big a) → X ≡ argumentLaid T at left big a
-  unfolding argumentLaid
-  argument-fits h e = e ∙ rw (le-leb 26 (length T) h)
+module _ (T : List ℕ) (at left : ℕ) (big : Bool) (a : Argument) where
+  pub argument-fits : (A B C D : List ℕ) → 26 ≤ length T → A ≡ over T 0 (at ∷ left ∷ oneIf big ∷ []) → B ≡ over A 3 (typeNumbers a) → C ≡ over B 10 (contentNumbers a)
+      → D ≡ over C 23 (argumentEnds a) → D ≡ argumentLaid T at left big a
+  unfolding argumentLaid argumentNumbers
+  argument-fits A B C D h p q r s =
+      let v : List ℕ = at ∷ left ∷ oneIf big ∷ [] in
+      four-groups T A B C D v (typeNumbers a) (contentNumbers a) (argumentEnds a) 0 3 10 23 p q r s refl (omega (arith, types a)) (omega (arith, contents a)) (omega arith)
+      ∙ rw (le-leb 26 (length T) h)
 
   pub argument-short : length T < 26 → T ≡ argumentLaid T at left big a
   unfolding argumentLaid
@@ -130,4 +130,4 @@ module _ (T X : List ℕ) (c : RawCursor) (r : Range) where
   unfolding rawLaid
   raw-short h = rw (lt-leb 5 (length T) h)
 
-pub ruleset groups = (raw-fits, raw-short, kind-row, coding-row, point-row, value-row, argument-ends-row, no-point, names-row, type-row, content-row, handed-row, argument-fits, argument-short)
+pub ruleset groups = (raw-fits, raw-short, kind-row, coding-row, point-row, value-row, argument-ends-row, no-point, names-row, type-row, content-row, cursor-row, argument-fits, argument-short)

@@ -17,7 +17,7 @@ ghost use Rattle.parse.specs.Message.{itemOf};
 ghost use Rattle.parse.specs.declared.ParsedMessage.{ParsedMessage};
 ghost use Rattle.numbers.specs.Layout.{oneIf, orderNumber, textNumbers, numNumbers, storageNumbers, frontNumbers, standardNumbers, extendedNumbers, payloadNumbers, endedNumber, textEnd, storedEnd, applicationEnd, contextEnd, endNumbers, leadNumbers, messageLaid};
 ghost use Rattle.numbers.specs.Outlined.{outlinedLaid};
-ghost use Rattle.numbers.specs.Arguments.{signedBits, lengthBits, widthBits, kindNumber, kindBits, codingNumber, valueNumber, valueFirst, valueSecond, valueEnd, offsetWidth, offsetBits, kindNumbers, codingNumbers, pointNumbers, valueNumbers, typeNumbers, nameNumbers, contentNumbers, argumentEnds, argumentNumbers, argumentLaid};
+ghost use Rattle.numbers.specs.Arguments.{signedBits, lengthBits, widthBits, kindNumber, kindBits, codingNumber, valueNumber, valueFirst, valueSecond, valueEnd, offsetWidth, offsetBits, kindNumbers, codingNumbers, pointNumbers, valueNumbers, typeNumbers, nameNumbers, contentNumbers, argumentEnds, argumentLaid};
 ghost use Rattle.numbers.specs.Raw.{rawLaid};
 use cursor::RawCursor;
 use dlt::Argument;
@@ -1049,15 +1049,13 @@ fn put_argument_ends(out: &mut [u64], a: Argument)
     put3(out, 23, text_end(name), text_end(unit), value_end(value));
 }
 
-fn put_handed(out: &mut [u64], at: usize, left: usize, big: bool, a: Argument)
+// The cursor behind it: where the next stands, how many are left or which word is next, and the byte order.
+fn put_cursor(out: &mut [u64], at: usize, left: usize, big: bool)
     requires { ⌜ 26 ≤ length (now out) ⌝ }
-    ensures { λ _. ⌜ now (out .exit) ≡ over (now (out .entry)) 0 (argumentNumbers at left big a) ⌝ }
+    ensures { λ _. ⌜ now (out .exit) ≡ over (now (out .entry)) 0 (at ∷ left ∷ oneIf big ∷ []) ⌝ }
 {
     let order = flag(big);
     put3(out, 0, at as u64, left as u64, order);
-    put_type(out, a);
-    put_content(out, a);
-    put_argument_ends(out, a);
 }
 
 // The numbers of an argument and of the cursor behind it, from the first place on, if there are places for all.
@@ -1065,7 +1063,22 @@ pub fn put_argument(out: &mut [u64], at: usize, left: usize, big: bool, a: Argum
     ensures { λ _. ⌜ now (out .exit) ≡ argumentLaid (now (out .entry)) at left big a ⌝ }
 {
     if 26 <= out.len() {
-        put_handed(out, at, left, big, a);
+        put_cursor(out, at, left, big);
+        put_type(out, a);
+        put_content(out, a);
+        put_argument_ends(out, a);
+    }
+}
+
+// The same of a signal, whose cursor counts words. Each of the two has one caller, which it is copied into (docs/DECISIONS.md).
+pub fn put_signal(out: &mut [u64], at: usize, word: usize, big: bool, a: Argument)
+    ensures { λ _. ⌜ now (out .exit) ≡ argumentLaid (now (out .entry)) at word big a ⌝ }
+{
+    if 26 <= out.len() {
+        put_cursor(out, at, word, big);
+        put_type(out, a);
+        put_content(out, a);
+        put_argument_ends(out, a);
     }
 }
 

@@ -7,9 +7,12 @@ use Rattle.numbers.proofs.put_argument.Tie as tie
 
 pub put-argument-spec : {M : Type 1} → statement M
 put-argument-spec =
-    tie.close
-    (tie.spec
+    let closed = tie.spec
+    (λ c κs. search needs)
+    (λ c κs. search needs)
+    (λ c κs. search needs)
     (λ c κs. search needs)
     (λ c. search needs)
     (λ c. search groups depth 20)
-    (λ c. search groups depth 20))
+    (λ c. search groups depth 20)
+    in tie.close closed
