@@ -8,14 +8,14 @@ use mathlib.Core.Bool.{Bool, true, false, _&&_}
 use mathlib.Core.List.{List, [], _∷_}
 use lib.ListN.{length, getD}
 use lib.Dec.{leb, eqb}
-use borrow.Author.Tests.{lt-ltb, le-ltb, leb-true, leb-false, eqb-true, eqb-false}
+use borrow.Author.Tests.{le-leb, lt-leb, lt-ltb, le-ltb, leb-true, leb-false, eqb-true, eqb-false}
 use Rattle.wire.specs.Answer.Ans.{done, need}
 use Rattle.wire.specs.Parser.{pick}
 use Rattle.wire.specs.Run.{range}
 use Rattle.wire.specs.declared.Ended.{Ended}
 use Rattle.wire.proofs.Step.{asking-need}
 use Rattle.strings.specs.Utf8.{Span, Row, table, inside, fits, formed, among, sequence, validUpTo}
-use Rattle.strings.specs.Text.{before0, letter, textNeed, textOf, endedOf, text, identified}
+use Rattle.strings.specs.Text.{before0, letter, textNeed, textOf, endedOf, text, identified, idLength}
 use Rattle.strings.proofs.Utf8.{sequence-le, valid-step, valid-stop, one-letter}
 use Rattle.strings.proofs.Longest.{between, prefix-within}
 use Rattle.strings.proofs.Strings.{Passed, passed-none, passed-more, passed, found, before0-le, text-within, no-truth, letter-is, is-letter, text-done}
@@ -331,3 +331,20 @@ module _ (s : List ℕ) (at l : ℕ) (is-left : l ≡ length s - at) where
   pub id-done : (v : ℕ) (y : Ended) → v ≡ valued 4 s at → y ≡ endedOf 4 s at → 4 ≤ l → done (record { place = range at v; ended = y }) (at + 4) ≡ identified s at
   unfolding identified
   id-done v y e q h = text-done 4 s at l is-left v y e q h
+
+-- ---- the length alone: where the four bytes are there it is the value's
+length-whole : (s : List ℕ) (at : ℕ) → 4 ≤ length s - at → idLength s at ≡ valued 4 s at
+unfolding idLength
+length-whole s at h = rw (le-leb 4 (length s - at) h)
+
+pub length-is : (s : List ℕ) (at v : ℕ) → v ≡ idLength s at → 4 ≤ length s - at → v ≡ textOf 4 s at .len
+length-is s at v e h = e ∙ length-whole s at h
+
+-- as the code tells it: l bytes are left, v is what `from_first` gave
+module _ (s : List ℕ) (at l : ℕ) (is-left : l ≡ length s - at) where
+  pub length-there : (v : ℕ) → v ≡ valued 4 s at → 4 ≤ l → v ≡ idLength s at
+  length-there v e h = e ∙ sym (length-whole s at (rw (← is-left) h))
+
+  pub length-missing : l < 4 → 0 ≡ idLength s at
+  unfolding idLength
+  length-missing h = rw (lt-leb 4 (length s - at) (rw (← is-left) h))

@@ -1,21 +1,18 @@
 -- Strings: the law of the rule, what the search for a zero byte needs, and the answers of the functions.
-use Prim.Native.Nat.{ℕ, zero, suc, _+_, _-_, _*_, _≤_, _<_, zero-le}
+use Prim.Native.Nat.{ℕ, zero, suc, _+_, _-_, _≤_, _<_, zero-le}
 use native.Mathlib.Omega.{arith}
-use native.Mathlib.Nat.{add-zero, zero-add, sub-zero, sub-self, not-suc-le-zero}
-use mathlib.Core.Path.{_≡_, refl, sym, ap, ap₂, _∙_, subst}
+use native.Mathlib.Nat.{add-zero, zero-add, sub-zero, not-suc-le-zero}
+use mathlib.Core.Path.{_≡_, refl, sym, ap, ap₂, _∙_}
 use mathlib.Core.Bool.{Bool, true, false, _&&_}
 use mathlib.Core.List.{List, _++_}
 use lib.ListN.{length, getD, List·getD-append}
 use lib.Dec.{leb, ltb, eqb}
-use borrow.Author.Tests.{le-leb, lt-leb, lt-ltb, le-ltb, eq-eqb, ne-eqb, leb-true, leb-false}
-use Rattle.wire.specs.Answer.{Ans, Parser}
+use borrow.Author.Tests.{le-leb, lt-ltb, le-ltb, eq-eqb, ne-eqb, leb-true, leb-false}
 use Rattle.wire.specs.Answer.Ans.{done, need}
-use Rattle.wire.specs.Parser.{asking, pick, lacking}
+use Rattle.wire.specs.Parser.{pick, lacking}
 use Rattle.wire.specs.Lawful.{Lawful, Reads}
-use Rattle.wire.specs.Run.{range, textAns}
+use Rattle.wire.specs.Run.{range}
 use Rattle.wire.specs.declared.Range.{Range}
-use Rattle.wire.specs.declared.TextAns.{TextAns}
-use Rattle.wire.specs.declared.GotText.{GotText}
 use Rattle.wire.specs.declared.Ended.{Ended}
 use Rattle.wire.proofs.Laws.{sized-law}
 use Rattle.wire.proofs.Step.{asking-done, asking-need}
@@ -219,20 +216,3 @@ module _ (n : ℕ) (s : List ℕ) (at l : ℕ) (is-left : l ≡ length s - at) w
       sym (asking-need n _ _ s at (omega arith) ∙ rw (le-ltb (before0 (length s - at) s at) (length s - at) (omega arith)))
 
 pub ruleset texts = (text-done, text-more, text-one)
-
--- a string that was read, where its bytes are there: r is a call's result
-module _ (n : ℕ) (s : List ℕ) (at : ℕ) (r : TextAns) (e : textAns r ≡ text n s at) where
-  pub text-is : (g : GotText) → r ≡ TextAns.Done g → g .v ≡ endedText n s at
-  unfolding text asking
-  text-is g q = by (leb n (length s - at)) (sym (ap textAns q) ∙ e)
-    where
-      by : (t : Bool) → done (g .v) (g .next) ≡ pick t (done (endedText n s at) (at + n)) (need (textNeed n s at)) → g .v ≡ endedText n s at
-      by true f = cc
-      by false f = let z : _≡_ {A = ℕ} 0 1 = cc in absurd (omega arith)
-
-  pub text-there : (m : ℕ) → n ≤ length s - at → r ≡ TextAns.Need m → ⊥
-  unfolding text
-  text-there m h q =
-      let f : need m ≡ done (endedText n s at) (at + n) = sym (ap textAns q) ∙ e ∙ asking-done n _ _ s at h in
-      let z : _≡_ {A = ℕ} 0 1 = cc in
-      omega arith

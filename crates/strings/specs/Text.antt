@@ -51,3 +51,7 @@ text n = asking n (textNeed n) (λ s at. done (endedText n s at) (at + n))
 -- an identifier is one of size 4
 unfoldable pub identified : Parser Text
 identified = text 4
+
+-- how many bytes its value has; none where its four bytes are not there
+unfoldable pub idLength : List ℕ → ℕ → ℕ
+idLength s at = pick (leb 4 (length s - at)) (textOf 4 s at .len) 0

@@ -8,7 +8,7 @@ ghost use lib.ListN.{length, getD};
 ghost use Rattle.wire.specs.Answer.Ans.{done};
 ghost use Rattle.wire.specs.Run.{range, textAns};
 ghost use Rattle.strings.specs.Utf8.{span, tail, inside, formed, sequence, least, validUpTo};
-ghost use Rattle.strings.specs.Text.{before0, letter, Letters, textNeed, textOf, endedOf, text, identified};
+ghost use Rattle.strings.specs.Text.{before0, letter, Letters, textNeed, textOf, endedOf, text, identified, idLength};
 use wire::Ended;
 use wire::GotText;
 use wire::Range;
@@ -327,6 +327,14 @@ fn from_first(s: &[u8], at: usize) -> usize
     }
 }
 
+// How many bytes an identifier's value has, none where its four bytes aren't there: all that is asked of an id that is compared.
+pub fn id_length(s: &[u8], at: usize) -> usize
+    ensures { λ r. ⌜ r ≡ idLength (now (s .entry)) at ⌝ }
+{
+    let rest = wire::left(s, at);
+    if 4 <= rest { from_first(s, at) } else { 0 }
+}
+
 // An identifier that was read: where its value stands, why it ended, and all four bytes are used.
 fn read_identifier(at: usize, len: usize, ended: Ended) -> TextAns
     requires { ⌜ at + 4 < 18446744073709551616 ⌝ }
@@ -359,7 +367,7 @@ fn id_need(s: &[u8], at: usize, rest: usize) -> usize
     }
 }
 
-// An identifier: a string of size 4. Most values have all four bytes; answered by themselves they are quicker (docs/DECISIONS.md).
+// An identifier: a string of size 4. Most values have all four bytes, and are answered by themselves (docs/DECISIONS.md).
 pub fn identifier(s: &[u8], at: usize) -> TextAns
     ensures { λ r. ⌜ textAns r ≡ identified (now (s .entry)) at ⌝ }
 {
@@ -367,7 +375,7 @@ pub fn identifier(s: &[u8], at: usize) -> TextAns
     if rest < 4 {
         return TextAns::Need(id_need(s, at, rest));
     }
-    let len = from_first(s, at);
+    let len = id_length(s, at);
     if len == 4 {
         return read_identifier(at, 4, Ended::Size);
     }
