@@ -14,9 +14,12 @@ mod filtering;
 #[allow(dead_code)]
 #[path = "../../oracle/dlt-core/src/parse.rs"]
 mod parse;
+mod calls;
 mod traces;
 
+use calls::Calls;
 use filtering::ProcessedDltFilterConfig;
+use host::raw::{Answer, IndexAnswer};
 use parse::{dlt_consume_msg, dlt_message, ParsedMessage};
 use std::hint::black_box;
 use std::time::{Duration, Instant};
@@ -24,46 +27,32 @@ use traces::Ids;
 
 const SIZE: usize = 64 << 20;
 
-/// Goes on behind what was used; behind the pattern after a hickup.
-fn ours_messages(bytes: &[u8], filter: &[u8], with_arguments: bool) -> u64 {
-    let (mut at, mut items) = (0, 0);
-    let mut out = [0; host::raw::MESSAGE_SIZE];
-    while at < bytes.len() {
-        let answer = host::raw::message(&bytes[at..], filter, true, &mut out);
-        match answer.number {
-            host::raw::DONE => {
-                items += 1;
-                black_box(&out);
-                if with_arguments && out[host::raw::MESSAGE_FILTERED] == 0 {
-                    ours_arguments(&bytes[at..], &out);
-                }
-                at += answer.used as usize;
-            }
-            host::raw::HICKUP | host::raw::UNRECOVERABLE => at += host::raw::forward(&bytes[at..], 0).used as usize + 4,
-            _ => break,
-        }
-    }
-    items
-}
+/// The archive that is linked.
+struct Linked;
 
-/// Every argument of a message, with all its numbers; of a network trace every raw value.
-fn ours_arguments(bytes: &[u8], message: &[u64]) {
-    let mut out = [0; host::raw::ARGUMENT_SIZE];
-    // both calls write where the next argument stands and how many are left to the first two places
-    let next = match message[host::raw::MESSAGE_PAYLOAD] {
-        0 => host::raw::argument,
-        3 => host::raw::raw_value,
-        _ => return,
-    };
-    let (mut at, mut left) = (message[host::raw::MESSAGE_START] as usize, message[host::raw::MESSAGE_LENGTH] as usize);
-    let big = message[host::raw::MESSAGE_LIST_BIG] == 1;
-    while left > 0 {
-        let answer = next(bytes, at, left, big, &mut out);
-        if answer.number != host::raw::DONE || answer.value == 0 {
-            return;
-        }
-        black_box(&out);
-        (at, left) = (out[host::raw::ARGUMENT_NEXT] as usize, out[host::raw::ARGUMENT_LEFT] as usize);
+impl Calls for Linked {
+    fn message(&self, s: &[u8], f: &[u8], out: &mut [u64]) -> Answer {
+        host::raw::message(s, f, true, out)
+    }
+
+    fn argument(&self, s: &[u8], at: usize, left: usize, big: bool, out: &mut [u64]) -> Answer {
+        host::raw::argument(s, at, left, big, out)
+    }
+
+    fn raw_value(&self, s: &[u8], at: usize, left: usize, big: bool, out: &mut [u64]) -> Answer {
+        host::raw::raw_value(s, at, left, big, out)
+    }
+
+    fn forward(&self, s: &[u8]) -> Answer {
+        host::raw::forward(s, 0)
+    }
+
+    fn consume(&self, s: &[u8]) -> Answer {
+        host::raw::consume(s)
+    }
+
+    fn index(&self, s: &[u8], f: &[u8], at: usize, used: usize, table: &mut [u64]) -> IndexAnswer {
+        host::raw::index(s, f, at, used, table, host::NO_LIMIT)
     }
 }
 
@@ -83,22 +72,6 @@ fn core_messages(bytes: &[u8], filter: Option<&ProcessedDltFilterConfig>) -> u64
         }
     }
     items
-}
-
-/// The trace index from a fresh state: how many entries.
-fn ours_indexed(bytes: &[u8], filter: &[u8], table: &mut [u64]) -> u64 {
-    host::raw::index(bytes, filter, 0, 0, table, host::NO_LIMIT).used
-}
-
-/// The same in calls that are each given the bytes from the resume position on, `more` of them new.
-fn resumed(bytes: &[u8], more: usize, table: &mut [u64]) -> u64 {
-    let (mut at, mut used, mut end) = (0, 0, 0);
-    while end < bytes.len() {
-        end = bytes.len().min(end + more);
-        let answer = host::raw::index(&bytes[at..end], &[], at, used, table, host::NO_LIMIT);
-        (at, used) = (answer.at as usize, answer.used as usize);
-    }
-    used as u64
 }
 
 /// Document 01's walk by the crate's own calls.
@@ -123,19 +96,6 @@ fn core_indexed(bytes: &[u8], filter: Option<&ProcessedDltFilterConfig>) -> u64 
     }
     black_box(&entries);
     entries.len() as u64
-}
-
-fn ours_consumed(bytes: &[u8]) -> u64 {
-    let (mut at, mut count) = (0, 0);
-    while at < bytes.len() {
-        let answer = host::raw::consume(&bytes[at..]);
-        if answer.number != host::raw::DONE {
-            break;
-        }
-        count += 1;
-        at += answer.used as usize;
-    }
-    count
 }
 
 fn core_consumed(bytes: &[u8]) -> u64 {
@@ -191,16 +151,11 @@ fn row(name: &str, bytes: usize, beside: &str, (ours, theirs, count): (Duration,
     );
 }
 
-/// A filter as bytes, and as the crate has it: a level, and sets of `n` ids. The trace's own are among them where `app` is APP.
+/// A filter as bytes, and as the crate has it.
 fn filters(n: u64, app: &str, ids: Ids) -> (Vec<u8>, ProcessedDltFilterConfig) {
-    let set = |front: &str| -> Vec<String> { (0..n).map(|i| if i < 9 { ids.id(front, i) } else { format!("{}{i:02}", &front[..2]) }).collect() };
-    let (apps, ecus, contexts) = (set(app), set("ECU"), set("CTX"));
-    let mut bytes = vec![1, 0, 1, 6];
-    for (tag, ids) in [(2, &apps), (3, &ecus), (4, &contexts)] {
-        bytes.push(tag);
-        bytes.extend((4 * ids.len() as u16).to_be_bytes());
-        bytes.extend(ids.iter().flat_map(|id| traces::padded(id)));
-    }
+    let sets = traces::filter_sets(n, app, ids);
+    let bytes = traces::filter_bytes(&sets);
+    let [apps, ecus, contexts] = sets;
     let config = ProcessedDltFilterConfig {
         min_log_level: Some(dlt::LogLevel::Verbose),
         app_ids: Some(apps.into_iter().collect()),
@@ -210,21 +165,6 @@ fn filters(n: u64, app: &str, ids: Ids) -> (Vec<u8>, ProcessedDltFilterConfig) {
         context_id_count: 0,
     };
     (bytes, config)
-}
-
-/// The corpus's recordings one after the other, repeated.
-/// The recordings of the folder that CORPUS names, repeated; where there are none, that is said.
-fn corpus() -> Option<Vec<u8>> {
-    let folder = std::env::var("CORPUS").unwrap_or(concat!(env!("CARGO_MANIFEST_DIR"), "/../../shared/corpus/real").to_string());
-    let listed = std::fs::read_dir(&folder).into_iter().flatten();
-    let mut names: Vec<_> = listed.filter_map(|entry| Some(entry.ok()?.path())).filter(|path| path.is_file()).collect();
-    names.sort();
-    let all: Vec<u8> = names.iter().filter_map(|name| std::fs::read(name).ok()).flatten().collect();
-    if all.is_empty() {
-        eprintln!("bench: no recordings in {folder} (CORPUS names another folder), so the row 'corpus repeated' is left out");
-        return None;
-    }
-    Some(traces::repeated(SIZE, &all))
 }
 
 fn machine() -> String {
@@ -238,24 +178,24 @@ fn main() {
     println!("Machine: {}. Best of {rounds} rounds, in turn. `out` is not cleared between calls.\n", machine());
     println!("| Call and input | Count | Ours | Beside it | Ratio |\n|---|---|---|---|---|");
     let trace = traces::mixed(SIZE, 7, true, Ids::Letters);
-    row("dlt_message, and every argument by its cursor, mixed trace", trace.len(), "dlt-core", in_turn(rounds, || ours_messages(&trace, &[], true), || core_messages(&trace, None)));
-    row("dlt_message, the same trace", trace.len(), "dlt-core", in_turn(rounds, || ours_messages(&trace, &[], false), || core_messages(&trace, None)));
+    row("dlt_message, and every argument by its cursor, mixed trace", trace.len(), "dlt-core", in_turn(rounds, || Linked.messages(&trace, &[], true), || core_messages(&trace, None)));
+    row("dlt_message, the same trace", trace.len(), "dlt-core", in_turn(rounds, || Linked.messages(&trace, &[], false), || core_messages(&trace, None)));
     let (bytes, config) = filters(4, "APP", Ids::Letters);
-    row("dlt_message, filter of three sets of 4", trace.len(), "dlt-core", in_turn(rounds, || ours_messages(&trace, &bytes, false), || core_messages(&trace, Some(&config))));
-    if let Some(real) = corpus() {
-        row("dlt_message, corpus repeated", real.len(), "dlt-core", in_turn(rounds, || ours_messages(&real, &[], false), || core_messages(&real, None)));
+    row("dlt_message, filter of three sets of 4", trace.len(), "dlt-core", in_turn(rounds, || Linked.messages(&trace, &bytes, false), || core_messages(&trace, Some(&config))));
+    if let Some(real) = traces::corpus(SIZE) {
+        row("dlt_message, corpus repeated", real.len(), "dlt-core", in_turn(rounds, || Linked.messages(&real, &[], false), || core_messages(&real, None)));
     }
     let clean = traces::mixed(SIZE, 7, false, Ids::Letters);
-    row("dlt_consume_msg, the same without junk", clean.len(), "dlt-core", in_turn(rounds, || ours_consumed(&clean), || core_consumed(&clean)));
+    row("dlt_consume_msg, the same without junk", clean.len(), "dlt-core", in_turn(rounds, || Linked.consumed(&clean), || core_consumed(&clean)));
     let mut table = vec![0; 4 * (SIZE / 20 + 1)];
     for part in [SIZE / 64, SIZE / 16, SIZE / 4, SIZE] {
-        row(&format!("index, {} MB of the mixed trace", part >> 20), part, "dlt-core", in_turn(rounds, || ours_indexed(&trace[..part], &[], &mut table), || core_indexed(&trace[..part], None)));
+        row(&format!("index, {} MB of the mixed trace", part >> 20), part, "dlt-core", in_turn(rounds, || Linked.indexed(&trace[..part], &[], SIZE * 2, &mut table), || core_indexed(&trace[..part], None)));
     }
-    row("index, filter of three sets of 4", trace.len(), "dlt-core", in_turn(rounds, || ours_indexed(&trace, &bytes, &mut table), || core_indexed(&trace, Some(&config))));
+    row("index, filter of three sets of 4", trace.len(), "dlt-core", in_turn(rounds, || Linked.indexed(&trace, &bytes, SIZE * 2, &mut table), || core_indexed(&trace, Some(&config))));
     let (others, other_config) = filters(4, "NON", Ids::Letters);
-    row("index, the same with other app ids", trace.len(), "dlt-core", in_turn(rounds, || ours_indexed(&trace, &others, &mut table), || core_indexed(&trace, Some(&other_config))));
+    row("index, the same with other app ids", trace.len(), "dlt-core", in_turn(rounds, || Linked.indexed(&trace, &others, SIZE * 2, &mut table), || core_indexed(&trace, Some(&other_config))));
     let mut other = table.clone();
-    row("index, in calls of 64 KB", trace.len(), "one call", in_turn(rounds, || resumed(&trace, 1 << 16, &mut table), || resumed(&trace, SIZE * 2, &mut other)));
+    row("index, in calls of 64 KB", trace.len(), "one call", in_turn(rounds, || Linked.indexed(&trace, &[], 1 << 16, &mut table), || Linked.indexed(&trace, &[], SIZE * 2, &mut other)));
     drop((trace, clean));
     other_ids(rounds, &mut table);
     searches(rounds);
@@ -267,9 +207,9 @@ fn other_ids(rounds: u32, table: &mut [u64]) {
     for (name, ids) in [("ids of three letters and a zero byte", Ids::Short), ("ids with a letter above 7F", Ids::Wide)] {
         let trace = traces::mixed(SIZE, 7, true, ids);
         let (bytes, config) = filters(4, "APP", ids);
-        row(&format!("dlt_message, {name}"), trace.len(), "dlt-core", in_turn(rounds, || ours_messages(&trace, &[], false), || core_messages(&trace, None)));
-        row("dlt_message, the same, filter of three sets of 4", trace.len(), "dlt-core", in_turn(rounds, || ours_messages(&trace, &bytes, false), || core_messages(&trace, Some(&config))));
-        row("index, the same, filter of three sets of 4", trace.len(), "dlt-core", in_turn(rounds, || ours_indexed(&trace, &bytes, table), || core_indexed(&trace, Some(&config))));
+        row(&format!("dlt_message, {name}"), trace.len(), "dlt-core", in_turn(rounds, || Linked.messages(&trace, &[], false), || core_messages(&trace, None)));
+        row("dlt_message, the same, filter of three sets of 4", trace.len(), "dlt-core", in_turn(rounds, || Linked.messages(&trace, &bytes, false), || core_messages(&trace, Some(&config))));
+        row("index, the same, filter of three sets of 4", trace.len(), "dlt-core", in_turn(rounds, || Linked.indexed(&trace, &bytes, SIZE * 2, table), || core_indexed(&trace, Some(&config))));
     }
 }
 
@@ -283,7 +223,7 @@ fn searches(rounds: u32) {
         row(&format!("search, {name}"), bytes.len(), "plain loop", in_turn(rounds, || ours_search(&bytes), || plain_loop(&bytes)));
         let finder = memchr::memmem::Finder::new(b"DLT\x01");
         row(&format!("search, {name}"), bytes.len(), "memmem", in_turn(rounds, || ours_search(&bytes), || finder.find(&bytes).map_or(bytes.len() as u64, |i| i as u64)));
-        row(&format!("dlt_message, {name}"), bytes.len(), "dlt-core", in_turn(rounds, || ours_messages(&bytes, &[], false), || core_messages(&bytes, None)));
+        row(&format!("dlt_message, {name}"), bytes.len(), "dlt-core", in_turn(rounds, || Linked.messages(&bytes, &[], false), || core_messages(&bytes, None)));
     }
 }
 
@@ -294,9 +234,9 @@ fn worst(rounds: u32) {
         ("counted arguments far past the declared end", traces::past_the_end(SIZE / 16)),
         ("strings of 65,503 bytes", traces::repeated(SIZE, &traces::long_string())),
     ] {
-        row(&format!("dlt_message, {name}"), bytes.len(), "dlt-core", in_turn(rounds, || ours_messages(&bytes, &[], false), || core_messages(&bytes, None)));
+        row(&format!("dlt_message, {name}"), bytes.len(), "dlt-core", in_turn(rounds, || Linked.messages(&bytes, &[], false), || core_messages(&bytes, None)));
     }
     let small = traces::mixed(SIZE / 16, 7, true, Ids::Letters);
     let (bytes, config) = filters(64, "APP", Ids::Letters);
-    row("dlt_message, filter of three sets of 64", small.len(), "dlt-core", in_turn(rounds, || ours_messages(&small, &bytes, false), || core_messages(&small, Some(&config))));
+    row("dlt_message, filter of three sets of 64", small.len(), "dlt-core", in_turn(rounds, || Linked.messages(&small, &bytes, false), || core_messages(&small, Some(&config))));
 }

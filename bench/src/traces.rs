@@ -181,3 +181,33 @@ pub fn past_the_end(size: usize) -> Vec<u8> {
     one.extend([0, 0x82, 0, 0, 0xFF, 0xFF]);
     repeated(size, &one)
 }
+
+/// The recordings of the folder that CORPUS names, one after the other, repeated; where there are none, that is said.
+pub fn corpus(size: usize) -> Option<Vec<u8>> {
+    let folder = std::env::var("CORPUS").unwrap_or(concat!(env!("CARGO_MANIFEST_DIR"), "/../../shared/corpus/real").to_string());
+    let listed = std::fs::read_dir(&folder).into_iter().flatten();
+    let mut names: Vec<_> = listed.filter_map(|entry| Some(entry.ok()?.path())).filter(|path| path.is_file()).collect();
+    names.sort();
+    let all: Vec<u8> = names.iter().filter_map(|name| std::fs::read(name).ok()).flatten().collect();
+    if all.is_empty() {
+        eprintln!("bench: no recordings in {folder} (CORPUS names another folder), so the rows of the corpus are left out");
+        return None;
+    }
+    Some(repeated(size.max(all.len()), &all))
+}
+
+/// A filter's application, ECU and context ids, `n` each. The trace's own are among them where `app` is APP.
+pub fn filter_sets(n: u64, app: &str, ids: Ids) -> [Vec<String>; 3] {
+    [app, "ECU", "CTX"].map(|front| (0..n).map(|i| if i < 9 { ids.id(front, i) } else { format!("{}{i:02}", &front[..2]) }).collect())
+}
+
+/// The filter with these sets and the lowest level as its bytes.
+pub fn filter_bytes(sets: &[Vec<String>; 3]) -> Vec<u8> {
+    let mut bytes = vec![1, 0, 1, 6];
+    for (tag, ids) in (2..).zip(sets) {
+        bytes.push(tag);
+        bytes.extend((4 * ids.len() as u16).to_be_bytes());
+        bytes.extend(ids.iter().flat_map(|id| padded(id)));
+    }
+    bytes
+}
