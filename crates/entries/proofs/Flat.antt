@@ -22,7 +22,7 @@ use Rattle.step.specs.Step.{asked}
 use Rattle.index.specs.Index.{limit, flatForm, shown, laid, walkOf, ahead, checked, call, outcome}
 use Rattle.index.specs.Calls.{fresh, totals}
 use Rattle.index.specs.declared.State.{State}
-use Rattle.index.proofs.Laws.{good-filter, bad-filter, bad-state, too-long, goes-ahead}
+use Rattle.index.proofs.Laws.{good-filter, bad-filter, retired-tag, bad-state, too-long, goes-ahead}
 use Rattle.index.proofs.Promises.{ahead-so}
 use Rattle.index.proofs.Flat.{flat-sound}
 use Rattle.index.proofs.Flat as of-numbers
@@ -125,6 +125,9 @@ module _ (f : List ℕ) (n : ℕ) (s : List ℕ) (st : State) (T : List Entry) w
           good-filter flatForm f n s st (numbers T) (filterOf f) filter refl e
           ∙ checks-alike filter
           ∙ sym (ap flatOf (good-filter entryForm f n s st T (filterOf f) filter refl e))
+      by FilterAns.Retired e =
+          retired-tag flatForm f n s st (numbers T) (filterOf f) refl e
+          ∙ sym (ap flatOf (retired-tag entryForm f n s st T (filterOf f) refl e))
       by FilterAns.Bad e =
           bad-filter flatForm f n s st (numbers T) (filterOf f) refl e
           ∙ sym (ap flatOf (bad-filter entryForm f n s st T (filterOf f) refl e))

@@ -3,7 +3,6 @@ use Prim.Native.Nat.{ℕ, _+_, _-_, _<_, _≤_}
 use mathlib.Core.Path.{_≡_}
 use mathlib.Core.List.{List, _++_}
 use native.Mathlib.Nat.{one-mul}
-use native.Mathlib.Omega.{arith}
 use lib.ListN.{length, take, drop}
 use mathlib.Core.Bool.{true}
 use Rattle.wire.specs.Answer.Ans.{done}
@@ -13,7 +12,7 @@ use Rattle.filter.specs.declared.FilterAns.{FilterAns}
 use Rattle.worth.specs.Opening.{Opening, opening}
 use Rattle.worth.specs.Need.{ByLength}
 use Rattle.walk.specs.Walk.{Ends}
-use Rattle.index.specs.Index.{limit, numberOf, endOf, refused, walkOf, call}
+use Rattle.index.specs.Index.{limit, Refuses, endOf, refused, walkOf, call}
 use Rattle.index.specs.Calls.{unlimited, whole, adding, next, over-trace, calls, joined, repeated, Above, total, WaitOver, SameEntries, Alike}
 use Rattle.index.specs.declared.State.{State}
 use Rattle.index.specs.declared.End.{End}
@@ -24,20 +23,20 @@ use Rattle.entries.specs.declared.Entry.{Entry}
 use Rattle.entries.proofs.Turns.{entry-sound}
 
 -- a walk ends in none of the refusals
-no-refusal : (x : Ends ℕ) → (1 ≤ numberOf (endOf x)) × (numberOf (endOf x) ≤ 6) → ⊥
-no-refusal Ends.Paused r = omega arith
-no-refusal Ends.Full r = omega arith
-no-refusal (Ends.Waits need) r = omega arith
+no-refusal : (x : Ends ℕ) → Refuses (endOf x) → ⊥
+no-refusal Ends.Paused r = r
+no-refusal Ends.Full r = r
+no-refusal (Ends.Waits need) r = r
 
 module _ (f : List ℕ) where
-  -- a refusal (1, 5, 6) hands back the state that it was given, and changes no lent entry
+  -- a refusal (1, 13, 5, 6) hands back the state that it was given, and changes no lent entry
   pub refusals : (n : ℕ) (s : List ℕ) (st : State) (T : List Entry)
-      → (1 ≤ numberOf (call entryForm f n s st T .answer .end)) × (numberOf (call entryForm f n s st T .answer .end) ≤ 6)
+      → Refuses (call entryForm f n s st T .answer .end)
       → call entryForm f n s st T ≡ refused st T (call entryForm f n s st T .answer .end)
   refusals n s st T r = by (any.came entryForm entry-sound f n s st T)
     where
       by : any.Came entryForm entry-sound f n s st T → call entryForm f n s st T ≡ refused st T (call entryForm f n s st T .answer .end)
-      by (any.no e a b q) = rw (q n s)
+      by (any.no e a q) = rw (q n s)
       by (any.long l q) = rw (q n)
       by (any.yes filter h l g q) =
           absurd (no-refusal (walkOf f filter n s st (length T) .ends) (rw (q n, any.ahead-so entryForm entry-sound f filter n s st T) at r))

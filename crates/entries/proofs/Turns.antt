@@ -21,7 +21,7 @@ use Rattle.step.proofs.Fair.{fair}
 use Rattle.index.specs.Index.{limit, Sound, stopped, endOf, ahead, call}
 use Rattle.index.specs.declared.State.{State}
 use Rattle.index.specs.declared.End.{End}
-use Rattle.index.proofs.Laws.{Kept, starts, turns, no-turn, turned, ends-so, good-filter, bad-filter, bad-state, too-long, goes-ahead}
+use Rattle.index.proofs.Laws.{Kept, starts, turns, no-turn, turned, ends-so, good-filter, bad-filter, retired-tag, bad-state, too-long, goes-ahead}
 use Rattle.entries.specs.Form.{entryForm}
 use Rattle.entries.specs.Turn.{stopOf, writeOf, saidOf, turnOf, judgedTurn, firstOf, nextOf, Apt}
 use Rattle.entries.specs.declared.Entry.{Entry}
@@ -55,6 +55,10 @@ module _ (f s : List ℕ) (st : State) (cap n : ℕ) (v : FilterAns) (e : v ≡ 
   pub first-bad-filter : v ≡ FilterAns.Bad → stopOf st 0 End.BadFilter ≡ firstOf f s st cap n
   unfolding firstOf judgedTurn
   first-bad-filter q = rw (sym e ∙ q)
+
+  pub first-retired : v ≡ FilterAns.Retired → stopOf st 0 End.RetiredTag ≡ firstOf f s st cap n
+  unfolding firstOf judgedTurn
+  first-retired q = rw (sym e ∙ q)
 
   module _ (filter : Filter) (q : v ≡ FilterAns.Good filter) where
     pub first-bad-state : cap < st .used → stopOf st 0 End.BadState ≡ firstOf f s st cap n
@@ -169,6 +173,7 @@ module _ (f s : List ℕ) (st : State) (n : ℕ) (T₀ : List Entry) where
 
       judge : (v : FilterAns) → filterOf f ≡ v → Due f s st n T₀ T₀ (judgedTurn f s st (length T₀) n v)
       judge (FilterAns.Good filter) q = used-up filter q (ltb (length T₀) (st .used)) refl
+      judge FilterAns.Retired q = ends refl refl (retired-tag entryForm f n s st T₀ (filterOf f) refl q)
       judge FilterAns.Bad q = ends refl refl (bad-filter entryForm f n s st T₀ (filterOf f) refl q)
 
   module _ (T : List Entry) (t : Turn) (w : Writes f s st n T₀ T t) where

@@ -2,7 +2,6 @@
 use Prim.Native.Nat.{ℕ, _+_, _≤_, _<_}
 use mathlib.Core.Bool.{true, false}
 use mathlib.Core.List.{List}
-use lib.IntN.{pos}
 use lib.ListN.{length, drop}
 use lib.Dec.{ltb, leb}
 use Rattle.wire.specs.Parser.{pick}
@@ -26,8 +25,6 @@ noFilter = record {
   «app_ids» = OptRange.Absent;
   «ecu_ids» = OptRange.Absent;
   «context_ids» = OptRange.Absent;
-  «app_id_count» = pos 0;
-  «context_id_count» = pos 0;
 }
 
 -- the call ends, with this answer
@@ -75,6 +72,7 @@ judgedTurn f s st cap n (FilterAns.Good filter) =
     pick (ltb cap (st .used)) (stopOf st 0 End.BadState)
     (pick (ltb limit (st .at + length s)) (stopOf st 0 End.TooLong)
     (turnOf filter (st .at) cap (st .used) 0 n 0 (asked f filter s)))
+judgedTurn f s st cap n FilterAns.Retired = stopOf st 0 End.RetiredTag
 judgedTurn f s st cap n FilterAns.Bad = stopOf st 0 End.BadFilter
 
 unfoldable pub firstOf : List ℕ → List ℕ → State → ℕ → ℕ → Turn

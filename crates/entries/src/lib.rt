@@ -63,8 +63,6 @@ fn stop(state: State, taken: usize, end: End) -> Turn
             app_ids: OptRange::Absent,
             ecu_ids: OptRange::Absent,
             context_ids: OptRange::Absent,
-            app_id_count: 0,
-            context_id_count: 0,
         },
         most: 0,
     }
@@ -156,6 +154,7 @@ fn first(s: &[u8], f: &[u8], state: State, cap: usize, n: usize) -> Turn
             }
             due(s, f, filter, state.at, cap, state.used, 0, n, 0)
         }
+        FilterAns::Retired => stop(state, 0, End::RetiredTag),
         FilterAns::Bad => stop(state, 0, End::BadFilter),
     }
 }

@@ -13,9 +13,10 @@
 #include <stddef.h>
 #include <stdint.h>
 
-/* The number of this interface: it goes up when a size, a place or a call here changes. 2: texts say why they ended; before it a message had 33 numbers and
-   an argument 23. An archive tells its sizes itself: dlt_message and dlt_argument, asked with out_len 0, answer DLT_SHORT_OUT with them. */
-#define DLT_INTERFACE 2
+/* The number of this interface: it goes up when a size, a place, an answer or a call here changes. 2: texts say why they ended; before it a message had 33
+   numbers and an argument 23. 3: a filter with a count is answered DLT_RETIRED_TAG; before it such a filter was read. An archive tells its sizes itself:
+   dlt_message and dlt_argument, asked with out_len 0, answer DLT_SHORT_OUT with them. */
+#define DLT_INTERFACE 3
 
 /* An answer's number. With DLT_INCOMPLETE `value` is the need (0: unknown): of dlt_message fewer bytes never help, and exactly so many decide it if the
    headers are there and the message isn't verbose or the filter drops it (crates/worth). With DLT_HICKUP it is the reason, with DLT_SHORT_OUT how many numbers
@@ -30,6 +31,7 @@
 #define DLT_TOO_LONG 6
 #define DLT_FULL 7
 #define DLT_PAUSED 8
+#define DLT_RETIRED_TAG 13              /* the filter keeps every rule but has an app or a context count (tag 5 or 6): the program rewriter cuts it off */
 #define DLT_SHORT_OUT 15
 
 /* A Hickup's reason: these six come out, each from the calls named, and from no other (crates/reasons). There is no 3: every message info is accepted. */
@@ -145,8 +147,8 @@ dlt_answer dlt_construct_arguments(bool big, const uint32_t *words, size_t words
 dlt_answer dlt_signal(const uint32_t *words, size_t words_len, const uint8_t *data, size_t data_len, size_t at, size_t word, bool big, uint64_t *out, size_t out_len);
 
 /* The index call's answer: DLT_DONE where the walk waits, with the need (0: unknown), or DLT_FULL, or DLT_PAUSED where n entries were taken, and the
-   state so far; or DLT_BAD_FILTER, DLT_BAD_STATE, DLT_TOO_LONG with the state that was given, and then the table is as it was. `taken` is how many
-   entries this call wrote. */
+   state so far; or DLT_BAD_FILTER or DLT_RETIRED_TAG, DLT_BAD_STATE, DLT_TOO_LONG with the state that was given, and then the table is as it was. `taken` is
+   how many entries this call wrote. */
 typedef struct {
     uint64_t number;
     uint64_t need;

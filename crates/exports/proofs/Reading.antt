@@ -71,6 +71,10 @@ module _ (f : List ℕ) (stored : Bool) (s T X : List ℕ) (v : FilterAns) (a : 
   unfolding messageCall messageOf judged messageShown
   message-bad q e = rw (le-leb 37 (length T) fits, sym d ∙ q, e)
 
+  pub message-retired : v ≡ FilterAns.Retired → a ≡ numbers 13 0 0 → messageCall f stored s T ≡ left a T
+  unfolding messageCall messageOf judged messageShown
+  message-retired q e = rw (le-leb 37 (length T) fits, sym d ∙ q, e)
+
   pub message-good : (filter : Filter) → v ≡ FilterAns.Good filter → messageShown T (parse.Answer.answered (message f filter stored s 0)) ≡ left a X → messageCall f stored s T ≡ left a X
   unfolding messageCall messageOf judged
   message-good filter q e = rw (le-leb 37 (length T) fits, sym d ∙ q) e
@@ -266,4 +270,4 @@ module _ (f s T X : List ℕ) (n at used : ℕ) (r : Indexed) (k m : ℕ) where
   unfolding indexCall indexShown
   index-told e p q = rw (e, p, q)
 
-pub ruleset calls = (index-told, message-short, message-bad, message-good, dropped-done, dropped-need, item-done, item-need, item-hickup, item-broken, order-at, body-dropped, body-kept, heads-done, heads-need, heads-hickup, argument-short, argument-told, turn-at, turn-item, turn-end, turn-need, turn-hickup, raw-short, raw-told, raw-at, raw-item, raw-end, raw-need, raw-hickup, signal-short, signal-told, signal-at, signal-item, signal-end, signal-hickup, found-at, found-none, consume-told, consume-need, consume-hickup, count-some, count-none, construct-done, construct-hickup)
+pub ruleset calls = (index-told, message-short, message-bad, message-retired, message-good, dropped-done, dropped-need, item-done, item-need, item-hickup, item-broken, order-at, body-dropped, body-kept, heads-done, heads-need, heads-hickup, argument-short, argument-told, turn-at, turn-item, turn-end, turn-need, turn-hickup, raw-short, raw-told, raw-at, raw-item, raw-end, raw-need, raw-hickup, signal-short, signal-told, signal-at, signal-item, signal-end, signal-hickup, found-at, found-none, consume-told, consume-need, consume-hickup, count-some, count-none, construct-done, construct-hickup)

@@ -17,8 +17,8 @@ use Rattle.headers.specs.Standard.{maybeId, maybeNumber, endianOf, headerOf, fl
 use Rattle.headers.specs.Extended.{extendedOf, named, extended}
 use Rattle.messageinfo.specs.MessageInfo.{knownLevel, logLevelOf, messageTypeBy, controlOf, networkTraceOf, applicationTraceOf}
 use Rattle.storage.specs.Storage.{marked, storage, stored, owned, storedOf}
-use Rattle.filter.specs.Filter.{filterOf, filter, field, tagNext, sets, counts, lastCount, ending, filterWith}
-use Rattle.filtering.specs.FilteredOut.{filteredOut, dropsExtended, dropsPlain, dropsLevel, dropsId, dropsEcu, shortSet}
+use Rattle.filter.specs.Filter.{filterOf, fields, wanted, counts, field, tagNext, ending}
+use Rattle.filtering.specs.FilteredOut.{filteredOut, dropsExtended, dropsLevel, dropsId, dropsEcu}
 use Rattle.payload.specs.Payload.{isVerbose, countOf, controlType, networkType, isControl, isNetwork, listOf, verbose, control, plain, payload}
 use Rattle.payload.specs.declared.PayloadContent.{PayloadContent}
 use Rattle.dlt.specs.TypeInfoWord.{typeInfoOf, kindBy, codingOf}
@@ -100,7 +100,7 @@ pub sums :
     × (sum true (replicate 15 0) ≡ needs 0)  -- P10
     × (sum true (replicate 16 0) ≡ needs 1)  -- P11
     × (sum false (0x21 ∷ 0x00 ∷ 0x00 ∷ 0x0E ∷ 0x41 ∷ 0x01 ∷ 0x41 ∷ 0x50 ∷ 0x50 ∷ 0x00 ∷ 0x43 ∷ 0x54 ∷ 0x58 ∷ 0x00 ∷ 0x11 ∷ 0x00 ∷ 0x00 ∷ 0x00 ∷ 0x01 ∷ []) ≡ item-of (Sum.values (Value.Bool 1 ∷ [])) 19)  -- P12
-unfolding messageOf judged filterOf filter field tagNext sets counts lastCount ending filterWith message routed choose headers _>>=_ here standard number fixed having asking numberOf flagged maybeId maybeNumber identified text endedText textOf endedOf validUpTo upTo sequence among formed ret refuse headerOf endianOf allHeaders overallLength headerTypeByte finished maybeExtended extended named extendedOf knownLevel logLevelOf messageTypeBy havingFrom seen headersOf filteredOut dropsPlain dropsExtended dropsLevel dropsId dropsEcu shortSet body item passed itemOf payload isVerbose isControl controlType networkType countOf isNetwork isBig verbose listOf control plain bytes fail storage marked find firstOf standsAt stored owned arguments times turn argument typeInfo decoded kinded boolean maybeName typeInfoOf kindBy codingOf numeric
+unfolding messageOf judged filterOf fields wanted counts field tagNext ending message routed choose headers _>>=_ here standard number fixed having asking numberOf flagged maybeId maybeNumber identified text endedText textOf endedOf validUpTo upTo sequence among formed ret refuse headerOf endianOf allHeaders overallLength headerTypeByte finished maybeExtended extended named extendedOf knownLevel logLevelOf messageTypeBy havingFrom seen headersOf filteredOut dropsExtended dropsLevel dropsId dropsEcu body item passed itemOf payload isVerbose isControl controlType networkType countOf isNetwork isBig verbose listOf control plain bytes fail storage marked find firstOf standsAt stored owned arguments times turn argument typeInfo decoded kinded boolean maybeName typeInfoOf kindBy codingOf numeric
 sums = (refl, refl, refl, refl, refl, refl, refl, refl, refl, refl, refl, refl, refl)
 
 -- P1 and P2 by name, and what P2's answer says, whatever bytes it is asked of
@@ -124,7 +124,7 @@ pub others :
     × (sum false (0x20 ∷ []) ≡ needs 1)
     × (sum false (0x20 ∷ 0x00 ∷ []) ≡ needs 2)
     × (sum false v2 ≡ hickups 2)
-unfolding messageOf judged filterOf filter field tagNext sets counts lastCount ending filterWith message routed choose headers _>>=_ here standard number fixed having asking numberOf flagged maybeId maybeNumber identified text endedText textOf endedOf validUpTo upTo sequence among formed ret refuse headerOf endianOf allHeaders overallLength headerTypeByte finished maybeExtended extended named extendedOf knownLevel logLevelOf messageTypeBy havingFrom seen headersOf filteredOut dropsPlain dropsExtended dropsLevel dropsId dropsEcu shortSet body item passed itemOf payload isVerbose isControl controlType networkType countOf isNetwork isBig verbose listOf control plain bytes fail storage marked find firstOf standsAt stored owned arguments times turn argument typeInfo decoded kinded boolean maybeName typeInfoOf kindBy codingOf numeric
+unfolding messageOf judged filterOf fields wanted counts field tagNext ending message routed choose headers _>>=_ here standard number fixed having asking numberOf flagged maybeId maybeNumber identified text endedText textOf endedOf validUpTo upTo sequence among formed ret refuse headerOf endianOf allHeaders overallLength headerTypeByte finished maybeExtended extended named extendedOf knownLevel logLevelOf messageTypeBy havingFrom seen headersOf filteredOut dropsExtended dropsLevel dropsId dropsEcu body item passed itemOf payload isVerbose isControl controlType networkType countOf isNetwork isBig verbose listOf control plain bytes fail storage marked find firstOf standsAt stored owned arguments times turn argument typeInfo decoded kinded boolean maybeName typeInfoOf kindBy codingOf numeric
 others = (λ s. refl, refl, refl, refl, refl, refl)
 
 pub p2-says : (s : List ℕ) → ofAnswer (messageOf [] false p2) s ≡ item-of (Sum.id 42) 8

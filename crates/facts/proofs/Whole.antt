@@ -17,6 +17,7 @@ module _ (f : List ℕ) (stored : Bool) (s t : List ℕ) where
   judged-stable : (v : FilterAns) → (numberedMessage (judged f stored s v) .number ≡ 2 → ⊥) → judged f stored (s ++ t) v ≡ judged f stored s v
   unfolding judged
   judged-stable (FilterAns.Good filter) w = ap Answer.answered (message-stable f filter stored s t w)
+  judged-stable FilterAns.Retired w = refl
   judged-stable FilterAns.Bad w = refl
 
   -- an answer other than Incomplete is the same with more bytes added
@@ -28,6 +29,7 @@ module _ (f : List ℕ) (stored : Bool) (s t : List ℕ) where
       → numberedMessage (judged f stored (s ++ t) v) .number ≡ 2
   unfolding judged
   judged-honest n (FilterAns.Good filter) e few = message-honest f filter stored s t n e few
+  judged-honest n FilterAns.Retired e few = absurd (omega (arith, ap (λ (x : Numbered ParsedMessage). x .number) e))
   judged-honest n FilterAns.Bad e few = absurd (omega (arith, ap (λ (x : Numbered ParsedMessage). x .number) e))
 
   -- after Incomplete with need n, fewer than n more bytes leave it Incomplete

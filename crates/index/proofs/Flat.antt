@@ -64,7 +64,7 @@ pub sums : (f : List ℕ) (n : ℕ) (s : List ℕ) (st : State) (T : List ℕ) �
 sums f n s st T e = by (came flatForm flat-sound f n s st T)
   where
     by : Came flatForm flat-sound f n s st T → totals (outcome f n s st T .answer .state .used) (outcome f n s st T .table) ≡ outcome f n s st T .answer .state .at
-    by (no z a b q) = rw (q n s) e
+    by (no z a q) = rw (q n s) e
     by (long l q) = rw (q n) e
     by (yes filter h l g q) =
         let o = walkOf f filter n s st (length T / 4) in

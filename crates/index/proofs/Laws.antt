@@ -31,6 +31,10 @@ module _ {A : Type 0} (form : Form A) (f : List ℕ) (n : ℕ) (s : List ℕ) (s
   unfolding call judged
   bad-filter v e q = rw (sym e ∙ q)
 
+  pub retired-tag : (v : FilterAns) → v ≡ filterOf f → v ≡ FilterAns.Retired → call form f n s st T ≡ refused st T End.RetiredTag
+  unfolding call judged
+  retired-tag v e q = rw (sym e ∙ q)
+
   pub good-filter : (v : FilterAns) (filter : Filter) → v ≡ filterOf f → v ≡ FilterAns.Good filter → call form f n s st T ≡ checked form f filter n s st T
   unfolding call judged
   good-filter v filter e q = rw (sym e ∙ q)

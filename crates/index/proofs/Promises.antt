@@ -16,7 +16,7 @@
 --     kept-behind    entries beyond those used keep what they held
 -- Assumes nothing.
 use Prim.Native.Nat.{ℕ, zero, suc, _+_, _-_, _*_, _≤_, _<_}
-use mathlib.Core.Path.{_≡_, refl, sym, ap, _∙_}
+use mathlib.Core.Path.{_≡_, refl, sym, ap, _∙_, subst}
 use mathlib.Core.Bool.{Bool, true, false}
 use mathlib.Core.List.{List, [], _∷_, _++_, append-nil, append-assoc}
 use native.Mathlib.Nat.{add-zero, mul-le-mul-left, mul-add}
@@ -42,11 +42,11 @@ use Rattle.step.specs.Step.{asked}
 use Rattle.step.proofs.Fair.{fair, patient, worth-an-entry}
 use Rattle.worth.specs.Opening.{Opening, opening}
 use Rattle.worth.specs.Need.{ByLength}
-use Rattle.index.specs.Index.{limit, Form, Sound, numberOf, Outcome, refused, shown, laid, endOf, walkOf, ahead, checked, call}
+use Rattle.index.specs.Index.{limit, Form, Sound, numberOf, Refuses, Outcome, refused, shown, laid, endOf, walkOf, ahead, checked, call}
 use Rattle.index.specs.Calls.{unlimited, whole, adding, next, over-trace, calls, joined, unless-paused, repeated, Above, total, WaitOver}
 use Rattle.index.specs.declared.State.{State}
 use Rattle.index.specs.declared.End.{End}
-use Rattle.index.proofs.Laws.{bad-filter, good-filter, bad-state, too-long, goes-ahead}
+use Rattle.index.proofs.Laws.{bad-filter, retired-tag, good-filter, bad-state, too-long, goes-ahead}
 
 -- ---- the walk of a call
 module _ {A : Type 0} (form : Form A) (sound : Sound form) (f : List ℕ) (filter : Filter) where
@@ -145,7 +145,7 @@ module _ {A : Type 0} (form : Form A) (sound : Sound form) (f : List ℕ) (filte
 module _ {A : Type 0} (form : Form A) (sound : Sound form) (f : List ℕ) where
   -- refused, and then nothing changes; or its walk was made
   pub data Came (n : ℕ) (s : List ℕ) (st : State) (T : List A) : Type 0 where
-    no : (e : End) → 1 ≤ numberOf e → numberOf e ≤ 6 → ((m : ℕ) (x : List ℕ) → call form f m x st T ≡ refused st T e) → Came n s st T
+    no : (e : End) → Refuses e → ((m : ℕ) (x : List ℕ) → call form f m x st T ≡ refused st T e) → Came n s st T
     long : limit < st .at + length s → ((m : ℕ) → call form f m s st T ≡ refused st T End.TooLong) → Came n s st T
     yes : (filter : Filter) → st .used ≤ form .holds (length T) → st .at + length s ≤ limit
         → ((m : ℕ) (x : List ℕ) (st : State) (T : List A) → call form f m x st T ≡ checked form f filter m x st T)
@@ -161,19 +161,20 @@ module _ {A : Type 0} (form : Form A) (sound : Sound form) (f : List ℕ) where
 
       second : (filter : Filter) → ((m : ℕ) (x : List ℕ) (st : State) (T : List A) → call form f m x st T ≡ checked form f filter m x st T)
           → (b : Bool) → ltb (form .holds (length T)) (st .used) ≡ b → Came n s st T
-      second filter g true e = no End.BadState (omega arith) (omega arith) (λ m x. g m x st T ∙ bad-state form f m x st T filter (ltb-true _ _ e))
+      second filter g true e = no End.BadState tt (λ m x. g m x st T ∙ bad-state form f m x st T filter (ltb-true _ _ e))
       second filter g false e = third filter g (ltb-false _ _ e) (ltb limit (st .at + length s)) refl
 
       by : (v : FilterAns) → filterOf f ≡ v → Came n s st T
       by (FilterAns.Good filter) e = second filter (λ m x st T. good-filter form f m x st T (filterOf f) filter refl e) (ltb (form .holds (length T)) (st .used)) refl
-      by FilterAns.Bad e = no End.BadFilter (omega arith) (omega arith) (λ m x. bad-filter form f m x st T (filterOf f) refl e)
+      by FilterAns.Retired e = no End.RetiredTag tt (λ m x. retired-tag form f m x st T (filterOf f) refl e)
+      by FilterAns.Bad e = no End.BadFilter tt (λ m x. bad-filter form f m x st T (filterOf f) refl e)
 
   -- the resume position moves forward, within the bytes given
   pub onward : (n : ℕ) (s : List ℕ) (st : State) (T : List A) → (st .at ≤ call form f n s st T .answer .state .at) × (call form f n s st T .answer .state .at ≤ st .at + length s)
   onward n s st T = by (came n s st T)
     where
       by : Came n s st T → (st .at ≤ call form f n s st T .answer .state .at) × (call form f n s st T .answer .state .at ≤ st .at + length s)
-      by (no e a b q) = rw (q n s) (omega arith)
+      by (no e a q) = rw (q n s) (omega arith)
       by (long l q) = rw (q n) (omega arith)
       by (yes filter h l g q) = rw (q n, ahead-so form sound f filter n s st T) (way form sound f filter n s st T)
 
@@ -182,7 +183,7 @@ module _ {A : Type 0} (form : Form A) (sound : Sound form) (f : List ℕ) where
   counted n s st T = by (came n s st T)
     where
       by : Came n s st T → call form f n s st T .answer .state .used ≡ st .used + call form f n s st T .answer .taken
-      by (no e a b q) = rw (q n s) (omega arith)
+      by (no e a q) = rw (q n s) (omega arith)
       by (long l q) = rw (q n) (omega arith)
       by (yes filter h l g q) = rw (q n, ahead-so form sound f filter n s st T)
 
@@ -191,7 +192,7 @@ module _ {A : Type 0} (form : Form A) (sound : Sound form) (f : List ℕ) where
   kept-before n s st T = by (came n s st T)
     where
       by : Came n s st T → take (form .width * st .used) (call form f n s st T .table) ≡ take (form .width * st .used) T
-      by (no e a b q) = rw (q n s)
+      by (no e a q) = rw (q n s)
       by (long l q) = rw (q n)
       by (yes filter h l g q) =
           rw (q n, ahead-so form sound f filter n s st T)
@@ -203,7 +204,7 @@ module _ {A : Type 0} (form : Form A) (sound : Sound form) (f : List ℕ) where
   kept-behind n s st T = by (came n s st T)
     where
       by : Came n s st T → drop (form .width * call form f n s st T .answer .state .used) (call form f n s st T .table) ≡ drop (form .width * call form f n s st T .answer .state .used) T
-      by (no e a b q) = rw (q n s)
+      by (no e a q) = rw (q n s)
       by (long l q) = rw (q n)
       by (yes filter h l g q) =
           rw (q n, ahead-so form sound f filter n s st T, wide form sound f filter n s st T h)
@@ -216,7 +217,7 @@ module _ {A : Type 0} (form : Form A) (sound : Sound form) (f : List ℕ) where
   demand-3 n s t st T l = by (came n s st T)
     where
       by : Came n s st T → next form f unlimited (s ++ t) st (call form f n s st T) ≡ whole form f (s ++ t) st T
-      by (no e a b q) = ap (next form f unlimited (s ++ t) st) (q n s) ∙ ap (adding 0) (q unlimited _) ∙ sym (q unlimited (s ++ t))
+      by (no e a q) = ap (next form f unlimited (s ++ t) st) (q n s) ∙ ap (adding 0) (q unlimited _) ∙ sym (q unlimited (s ++ t))
       by (long m q) = absurd (omega (arith, length-append s t))
       by (yes filter h m g q) =
           ap (next form f unlimited (s ++ t) st) (q n ∙ ahead-so form sound f filter n s st T)
@@ -266,7 +267,7 @@ module _ {A : Type 0} (form : Form A) (sound : Sound form) (f : List ℕ) where
   no-limit n s st T h = by (came n s st T)
     where
       by : Came n s st T → call form f n s st T ≡ whole form f s st T
-      by (no e a b q) = q n s ∙ sym (q unlimited s)
+      by (no e a q) = q n s ∙ sym (q unlimited s)
       by (long l q) = q n ∙ sym (q unlimited)
       by (yes filter free l c q) =
           q n
@@ -283,16 +284,17 @@ module _ {A : Type 0} (form : Form A) (sound : Sound form) (f : List ℕ) where
       then : Outcome A → Outcome A
       then a = unless-paused (a .answer .end) a (next form f m s st a)
 
-      ends : (e : End) (a more : Outcome A) → numberOf e ≤ 6 → unless-paused e a more ≡ a
+      ends : (e : End) (a more : Outcome A) → Refuses e → unless-paused e a more ≡ a
       ends End.BadFilter a more h = refl
+      ends End.RetiredTag a more h = refl
       ends End.BadState a more h = refl
       ends End.TooLong a more h = refl
-      ends End.Full a more h = refl
-      ends End.Paused a more h = absurd (omega arith)
-      ends (End.Waits need) a more h = refl
+      ends End.Full a more h = absurd h
+      ends End.Paused a more h = absurd h
+      ends (End.Waits need) a more h = absurd h
 
       by : Came n s st T → then (call form f n s st T) ≡ call form f (n + m) s st T
-      by (no e a b q) = ap then (q n s) ∙ ends e (refused st T e) (next form f m s st (refused st T e)) b ∙ sym (q (n + m) s)
+      by (no e a q) = ap then (q n s) ∙ ends e (refused st T e) (next form f m s st (refused st T e)) a ∙ sym (q (n + m) s)
       by (long l q) = ap then (q n) ∙ sym (q (n + m))
       by (yes filter h l g q) =
           ap then (q n ∙ ahead-so form sound f filter n s st T)
@@ -357,7 +359,7 @@ module _ {A : Type 0} (form : Form A) (sound : Sound form) (f : List ℕ) where
   zero-keeps s st T = by (came 0 s st T)
     where
       by : Came 0 s st T → call form f 0 s st T ≡ refused st T (call form f 0 s st T .answer .end)
-      by (no e a b q) = rw (q 0 s)
+      by (no e a q) = rw (q 0 s)
       by (long l q) = rw (q 0)
       by (yes filter h l g q) = rw (q 0 ∙ stops-at-once s st T filter)
 
@@ -384,7 +386,7 @@ module _ {A : Type 0} (form : Form A) (sound : Sound form) (f : List ℕ) where
       so u x = record { answer = record { state = x .answer .state; taken = x .answer .taken; end = End.Waits u }; table = x .table }
 
       by : Came n s st T → (u : ℕ) × (call form f n (s ++ t) st T ≡ so u (call form f n s st T))
-      by (no e a b q) = absurd (omega (arith, ap numberOf (sym (ap (λ (o : Outcome A). o .answer .end) (q n s)) ∙ w)))
+      by (no e a q) = absurd (subst Refuses (sym (ap (λ (o : Outcome A). o .answer .end) (q n s)) ∙ w) a)
       by (long m q) = absurd (omega (arith, length-append s t))
       by (yes filter h m g q) =
           let o = out form sound f filter n s st T in
@@ -435,8 +437,9 @@ module _ {A : Type 0} (form : Form A) (sound : Sound form) (f : List ℕ) where
   worth-the-wait n s t st T v l behind g w read c enough = by (came n s st T) (filterOf f) refl
     where
       by : Came n s st T → (x : FilterAns) → filterOf f ≡ x → WaitOver (form .holds (length T)) (call form f n s st T) (call form f n (s ++ t) st T)
-      by (no e a b q) x z = absurd (omega (arith, ap numberOf (sym (ap (λ (o : Outcome A). o .answer .end) (q n s)) ∙ w)))
+      by (no e a q) x z = absurd (subst Refuses (sym (ap (λ (o : Outcome A). o .answer .end) (q n s)) ∙ w) a)
       by (long m q) x z = absurd (omega (arith, length-append s t))
+      by (yes _ h m _ _) FilterAns.Retired z = absurd (omega (arith, ap numberOf (sym (ap (λ (o : Outcome A). o .answer .end) (retired-tag form f n s st T (filterOf f) refl z)) ∙ w)))
       by (yes _ h m _ _) FilterAns.Bad z = absurd (omega (arith, ap numberOf (sym (ap (λ (o : Outcome A). o .answer .end) (bad-filter form f n s st T (filterOf f) refl z)) ∙ w)))
       by (yes _ h m _ _) (FilterAns.Good filter) z =
           let is : (x : List ℕ) → st .at + length x ≤ limit → call form f n x st T ≡ laid form T (st .used) (out form sound f filter n x st T) =

@@ -23,7 +23,7 @@ use Rattle.index.specs.Calls.{unlimited, whole, adding, SameEntries, Ali
 use Rattle.index.specs.declared.State.{State}
 use Rattle.index.specs.declared.End.{End}
 use Rattle.index.specs.declared.Indexed.{Indexed}
-use Rattle.index.proofs.Laws.{bad-filter, good-filter, bad-state, too-long, goes-ahead}
+use Rattle.index.proofs.Laws.{bad-filter, retired-tag, good-filter, bad-state, too-long, goes-ahead}
 use Rattle.index.proofs.Promises.{ahead-so, fits, wide, demand-3}
 
 module _ {A : Type 0} (form : Form A) (sound : Sound form) (f : List ℕ) where
@@ -76,6 +76,7 @@ module _ {A : Type 0} (form : Form A) (sound : Sound form) (f : List ℕ) where
 
       by : (v : FilterAns) → filterOf f ≡ v → Alike form (call form f n s st T) (call form f n s st U)
       by (FilterAns.Good filter) e = second filter e (ltb (form .holds (length T)) (st .used)) refl
+      by FilterAns.Retired e = both-refuse n s st T U same End.RetiredTag (retired-tag form f n s st T (filterOf f) refl e) (retired-tag form f n s st U (filterOf f) refl e)
       by FilterAns.Bad e = both-refuse n s st T U same End.BadFilter (bad-filter form f n s st T (filterOf f) refl e) (bad-filter form f n s st U (filterOf f) refl e)
 
   -- DEMAND 3 where the host wrote into unused places: a call with any limit left a table, U has its entries, and a call without a limit over U, with more

@@ -46,6 +46,7 @@ joined (p ∷ ps) = p .1 ++ joined ps
 abbrev pub unless-paused : {X : Type 0} → End → X → X → X
 unless-paused End.Paused a more = more
 unless-paused End.BadFilter a more = a
+unless-paused End.RetiredTag a more = a
 unless-paused End.BadState a more = a
 unless-paused End.TooLong a more = a
 unless-paused End.Full a more = a

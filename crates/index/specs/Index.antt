@@ -5,7 +5,7 @@ use mathlib.Core.Path.{_≡_}
 use mathlib.Core.List.{List, [], _∷_}
 use lib.ListN.{length}
 use lib.Dec.{ltb}
-use Rattle.wire.specs.Answer.{Carried, Numbered, badFilter, carriedNumber}
+use Rattle.wire.specs.Answer.{Carried, Numbered, badFilter, retiredTag, carriedNumber}
 use Rattle.wire.specs.Parser.{pick}
 use Rattle.filter.specs.Filter.{filterOf}
 use Rattle.filter.specs.declared.Filter.{Filter}
@@ -39,11 +39,22 @@ flatForm = record { width = 4; cells = λ e. e .start ∷ e .skipped ∷ e .len 
 -- document 01's number of each answer, and what it carries besides the state: waits (done) the need
 abbrev pub numberedEnd : End → Numbered Unit
 numberedEnd End.BadFilter = badFilter
+numberedEnd End.RetiredTag = retiredTag
 numberedEnd End.BadState = record { number = 5; carries = Carried.nothing }
 numberedEnd End.TooLong = record { number = 6; carries = Carried.nothing }
 numberedEnd End.Full = record { number = 7; carries = Carried.nothing }
 numberedEnd End.Paused = record { number = 8; carries = Carried.nothing }
 numberedEnd (End.Waits need) = record { number = 0; carries = Carried.need need }
+
+-- the answers that refuse a call: 1, 13, 5, 6. The others stand where its walk stops
+abbrev pub Refuses : End → Type 0
+Refuses End.BadFilter = Unit
+Refuses End.RetiredTag = Unit
+Refuses End.BadState = Unit
+Refuses End.TooLong = Unit
+Refuses End.Full = ⊥
+Refuses End.Paused = ⊥
+Refuses (End.Waits need) = ⊥
 
 -- as two numbers
 abbrev pub numberOf : End → ℕ
@@ -93,9 +104,10 @@ checked form f filter n s st T =
     (pick (ltb limit (st .at + length s)) (refused st T End.TooLong)
     (ahead form f filter n s st T))
 
--- BadFilter comes before all
+-- BadFilter and RetiredTag come before all
 unfoldable pub judged : {A : Type 0} → Form A → List ℕ → ℕ → List ℕ → State → List A → FilterAns → Outcome A
 judged form f n s st T (FilterAns.Good filter) = checked form f filter n s st T
+judged form f n s st T FilterAns.Retired = refused st T End.RetiredTag
 judged form f n s st T FilterAns.Bad = refused st T End.BadFilter
 
 -- the call: the filter's bytes, after how many entries it stops, the bytes from the resume position on, the state, the table

@@ -22,6 +22,7 @@ pub struct State {
 // How a call ended: refused, or its walk is at a full table, or has taken as many entries as it may, or waits for so many bytes (0 for unknown).
 pub enum End {
     BadFilter,
+    RetiredTag,
     BadState,
     TooLong,
     Full,
@@ -164,6 +165,7 @@ pub fn index(s: &[u8], f: &[u8], state: State, table: &mut [u64], n: usize) -> I
 {
     match filter::read_filter(f) {
         FilterAns::Good(filter) => index_with(s, f, filter, state, table, n),
+        FilterAns::Retired => refuse(state, End::RetiredTag),
         FilterAns::Bad => refuse(state, End::BadFilter),
     }
 }

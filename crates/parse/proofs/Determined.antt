@@ -6,7 +6,7 @@ use Rattle.wire.specs.Answer.Ans.{done, need, hickup, broken}
 use Rattle.wire.proofs.Determined.{one-answer, back}
 use Rattle.payload.proofs.Determined.{whole, whole-answer}
 use Rattle.parse.specs.Message.{Answer, headersAns, parsedAns, messageAns}
-use Rattle.parse.specs.Message.Answer.{badFilter, answered}
+use Rattle.parse.specs.Message.Answer.{badFilter, retiredTag, answered}
 use Rattle.parse.specs.declared.Headers.{Headers}
 use Rattle.parse.specs.declared.ParsedMessage.{ParsedMessage}
 use Rattle.parse.specs.declared.HeadersAns.{HeadersAns}
@@ -32,6 +32,7 @@ parsed-determined = whole-answer parsedAns (λ a b. ParsedAns.Done (record { v =
 
 abbrev toMessage : Answer → MessageAns
 toMessage badFilter = MessageAns.BadFilter
+toMessage retiredTag = MessageAns.RetiredTag
 toMessage (answered (done a b)) = MessageAns.Done (record { v = a; next = b })
 toMessage (answered (need n)) = MessageAns.Need n
 toMessage (answered (hickup r)) = MessageAns.Hickup r
@@ -39,6 +40,7 @@ toMessage (answered broken) = MessageAns.Broken
 
 message-back : (r : MessageAns) → toMessage (messageAns r) ≡ r
 message-back MessageAns.BadFilter = refl
+message-back MessageAns.RetiredTag = refl
 message-back (MessageAns.Done g) = refl
 message-back (MessageAns.Need n) = refl
 message-back (MessageAns.Hickup n) = refl

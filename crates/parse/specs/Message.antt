@@ -110,13 +110,15 @@ parsedAns (ParsedAns.Need n) = need n
 parsedAns (ParsedAns.Hickup r) = hickup r
 parsedAns ParsedAns.Broken = broken
 
--- step 1 comes before anything else: BadFilter, or what the message rule answers
+-- step 1 comes before anything else: BadFilter, RetiredTag, or what the message rule answers
 pub data Answer : Type 0 where
   badFilter : Answer
+  retiredTag : Answer
   answered : Ans ParsedMessage → Answer
 
 unfoldable pub judged : List ℕ → Bool → List ℕ → FilterAns → Answer
 judged f stored s (FilterAns.Good filter) = Answer.answered (message f filter stored s 0)
+judged f stored s FilterAns.Retired = Answer.retiredTag
 judged f stored s FilterAns.Bad = Answer.badFilter
 
 unfoldable pub messageOf : List ℕ → Bool → List ℕ → Answer
@@ -125,11 +127,13 @@ messageOf f stored s = judged f stored s (filterOf f)
 -- document 01's number of each answer, and what it carries
 abbrev pub numberedMessage : Answer → Numbered ParsedMessage
 numberedMessage Answer.badFilter = wire.badFilter
+numberedMessage Answer.retiredTag = wire.retiredTag
 numberedMessage (Answer.answered x) = numbered x
 
 -- the answer that each case of the enum stands for
 abbrev pub messageAns : MessageAns → Answer
 messageAns MessageAns.BadFilter = Answer.badFilter
+messageAns MessageAns.RetiredTag = Answer.retiredTag
 messageAns (MessageAns.Done g) = Answer.answered (done (g .v) (g .next))
 messageAns (MessageAns.Need n) = Answer.answered (need n)
 messageAns (MessageAns.Hickup r) = Answer.answered (hickup r)

@@ -66,6 +66,7 @@ of-rule {A} {p} {all} h s at r e = of-answer all (p s at) (h .gives s at) r e
 judged-only : (f : List ℕ) (t : Bool) (s : List ℕ) (v : FilterAns) (r : ℕ) → numberedMessage (judged f t s v) .carries ≡ Carried.reason r → isOneOf r messageReasons ≡ true
 unfolding judged
 judged-only f t s (FilterAns.Good filter) r e = of-rule (message-gives messageReasons refl refl f filter t) s 0 r e
+judged-only f t s FilterAns.Retired r e = absurd (omega (arith, ap sort e))
 judged-only f t s FilterAns.Bad r e = absurd (omega (arith, ap sort e))
 
 -- what a sum says of a reason, the message's answer says

@@ -11,6 +11,7 @@ use crate::indexed;
 use crate::len;
 use crate::mi;
 use crate::msg;
+use crate::retire;
 use crate::skip;
 use crate::ti;
 use crate::writer;
@@ -36,6 +37,9 @@ fn by_bytes(line: &[u8], kind: Field, s: &[u8], out: &mut Out, at: usize) -> usi
     }
     if fields::is(line, kind, b"mi") {
         return mi::answer(s, out, at);
+    }
+    if fields::is(line, kind, b"retire") {
+        return retire::answer(s, out, at);
     }
     writer::bad_request(out, at)
 }

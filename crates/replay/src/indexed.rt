@@ -197,6 +197,7 @@ fn end_number(end: End) -> u64 {
     match end {
         End::Waits(_) => 0,
         End::BadFilter => 1,
+        End::RetiredTag => 13,
         End::BadState => 5,
         End::TooLong => 6,
         End::Full => 7,

@@ -61,6 +61,7 @@ fn shown(
 ) -> usize {
     match parse::dlt_message(s, f, with_storage_header) {
         MessageAns::BadFilter => writer::byte(out, at, b'1'),
+        MessageAns::RetiredTag => writer::literal(out, at, b"13"),
         MessageAns::Done(got) => parsed(s, got, why, out, at),
         MessageAns::Need(need) => writer::need(out, at, need),
         MessageAns::Hickup(reason) => writer::hickup(out, at, reason),

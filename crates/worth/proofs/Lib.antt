@@ -5,3 +5,4 @@ pub mod Worth
 pub mod Whole
 pub mod Examples
 pub mod Invalid
+pub mod Filtered

@@ -36,6 +36,7 @@ module _ (f : List ℕ) (t : Bool) (s : List ℕ) where
   asked : (n : ℕ) (v : FilterAns) → filterOf f ≡ v → numberedMessage (judged f t s v) ≡ waits n → Asked n
   unfolding judged
   asked n (FilterAns.Good filter) q e = record { filter = filter; good = q; waiting = of-need (message f filter t s 0) n e }
+  asked n FilterAns.Retired q e = absurd (omega (arith, ap (λ (x : Numbered ParsedMessage). x .number) e))
   asked n FilterAns.Bad q e = absurd (omega (arith, ap (λ (x : Numbered ParsedMessage). x .number) e))
 
   pub whole-given : (filter : Filter) (n : ℕ) (l : Opening) → filterOf f ≡ FilterAns.Good filter → Short t s n l → numberedMessage (messageOf f t s) ≡ waits n

@@ -39,7 +39,8 @@ Decided all (need n) = ⊥
 Decided all (hickup r) = ⊥
 Decided all broken = Unit
 
--- the same of the whole call, and no BadFilter
+-- the same of the whole call, and neither BadFilter nor RetiredTag
 abbrev pub DecidedCall : ℕ → Answer → Type 0
 DecidedCall all Answer.badFilter = ⊥
+DecidedCall all Answer.retiredTag = ⊥
 DecidedCall all (Answer.answered x) = Decided all x

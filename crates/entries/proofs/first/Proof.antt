@@ -3,7 +3,7 @@ use mathlib.Core.Path.{sym, _∙_}
 use native.Mathlib.Omega.{arith}
 use borrow.Author.Needs.{needs}
 use borrow.Author.Tests.{ltb-false}
-use Rattle.entries.proofs.Turns.{first-bad-filter, first-bad-state, first-too-long, first-due}
+use Rattle.entries.proofs.Turns.{first-bad-filter, first-retired, first-bad-state, first-too-long, first-due}
 use Rattle.entries.proofs.first.Statement.{statement}
 use Rattle.entries.proofs.first.Tie as tie
 
@@ -42,6 +42,12 @@ enum-told c = search needs
 stop-requires-3 : tie.Need-stop-requires-3
 stop-requires-3 c κs = search needs
 
+enum-told-2 : tie.Need-enum-told-2
+enum-told-2 c = search needs
+
+stop-requires-4 : tie.Need-stop-requires-4
+stop-requires-4 c κs = search needs
+
 returns-3 : tie.Need-returns-3
 returns-3 c =
     let a = c .before .before .before .before .before .before in
@@ -49,7 +55,10 @@ returns-3 c =
     ∙ first-due _ _ _ _ _ _ (a .before .before .read-filter .ensures) _ (a .filter .given .1) (omega arith) (sym (c .before .before .too-long .ensures) ∙ c .before .if2 .left)
 
 returns-4 : tie.Need-returns-4
-returns-4 c = c .stop3 .ensures ∙ first-bad-filter _ _ _ _ _ _ (c .before .before .before .read-filter .ensures) (c .before .enum-told .given .1)
+returns-4 c = c .stop3 .ensures ∙ first-retired _ _ _ _ _ _ (c .before .before .before .read-filter .ensures) (c .before .enum-told .given .1)
+
+returns-5 : tie.Need-returns-5
+returns-5 c = c .stop4 .ensures ∙ first-bad-filter _ _ _ _ _ _ (c .before .before .before .read-filter .ensures) (c .before .enum-told2 .given .1)
 
 pub first-spec : {M : Type 1} → statement M
 first-spec =
@@ -65,5 +74,8 @@ first-spec =
     due-requires
     enum-told
     stop-requires-3
+    enum-told-2
+    stop-requires-4
     returns-3
-    returns-4)
+    returns-4
+    returns-5)

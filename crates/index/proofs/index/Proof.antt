@@ -2,7 +2,7 @@
 use mathlib.Core.Path.{_∙_}
 use borrow.Author.Needs.{needs}
 use Rattle.index.specs.Index.{flatForm}
-use Rattle.index.proofs.Laws.{bad-filter, good-filter, with-answer}
+use Rattle.index.proofs.Laws.{bad-filter, retired-tag, good-filter, with-answer}
 use Rattle.index.proofs.index.Statement.{statement}
 use Rattle.index.proofs.index.Tie as tie
 
@@ -21,6 +21,12 @@ enum-told c = search needs
 refuse-requires : tie.Need-refuse-requires
 refuse-requires c κs = search needs
 
+enum-told-2 : tie.Need-enum-told-2
+enum-told-2 c = search needs
+
+refuse-requires-2 : tie.Need-refuse-requires-2
+refuse-requires-2 c κs = search needs
+
 same-length : tie.Need-same-length
 same-length c = search needs
 
@@ -31,8 +37,13 @@ returns c =
 
 returns-2 : tie.Need-returns-2
 returns-2 c =
-    bad-filter flatForm _ _ _ _ _ _ (c .before .before .before .read-filter .ensures) (c .before .enum-told .given .1)
+    retired-tag flatForm _ _ _ _ _ _ (c .before .before .before .read-filter .ensures) (c .before .enum-told .given .1)
     ∙ with-answer _ (c .refuse .ensures)
+
+returns-3 : tie.Need-returns-3
+returns-3 c =
+    bad-filter flatForm _ _ _ _ _ _ (c .before .before .before .read-filter .ensures) (c .before .enum-told2 .given .1)
+    ∙ with-answer _ (c .refuse2 .ensures)
 
 pub index-spec : {M : Type 1} → statement M
 index-spec =
@@ -43,6 +54,9 @@ index-spec =
     index-with-requires
     enum-told
     refuse-requires
+    enum-told-2
+    refuse-requires-2
     same-length
     returns
-    returns-2)
+    returns-2
+    returns-3)

@@ -1,0 +1,10 @@
+pub mod Reading
+pub mod Cuts
+pub mod Shape
+pub mod Same
+pub mod Standing
+pub mod Rewriting
+pub mod Spelled
+pub mod Determined
+pub mod Sign
+pub mod Examples

@@ -1,0 +1,3 @@
+pub mod Old
+pub mod Rewrite
+pub mod Sorts
