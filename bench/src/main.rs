@@ -161,6 +161,7 @@ fn filters(n: u64, app: &str, ids: Ids) -> (Vec<u8>, ProcessedDltFilterConfig) {
         app_ids: Some(apps.into_iter().collect()),
         ecu_ids: Some(ecus.into_iter().collect()),
         context_ids: Some(contexts.into_iter().collect()),
+        // filter bytes have no counts
         app_id_count: 0,
         context_id_count: 0,
     };

@@ -23,11 +23,13 @@ pub use argument::{arguments, raw_values, signals, Argument, Arguments, FixedPoi
 pub use trace::{index, index_in_steps, End, Entry, EntryKind, IndexRefusal, Indexed, State, NO_LIMIT};
 pub use message::{message, Cursor, ExtendedHeader, Message, MessageType, Parsed, Payload, RawCursor, StandardHeader, StorageHeader};
 
-/// Why there is no value: document 01's numbers 1 to 4.
+/// Why there is no value: document 01's numbers 1 to 4, and 13.
 #[derive(Clone, Copy, Debug, PartialEq, Eq)]
 pub enum Refusal {
     /// The filter's bytes break a rule.
     BadFilter,
+    /// The filter has a count (tag 5 or 6), and else keeps every rule: rewrite it with the program `rewriter`.
+    RetiredTag,
     /// More bytes could help: at least so many, 0 for unknown. Of [`message`], if the headers are there and it isn't verbose or the filter
     /// drops it, exactly so many decide it.
     Incomplete(u64),
@@ -162,6 +164,7 @@ fn refused(answer: raw::Answer) -> Result<(), Refusal> {
     match answer.number {
         raw::DONE => Ok(()),
         raw::BAD_FILTER => Err(Refusal::BadFilter),
+        raw::RETIRED_TAG => Err(Refusal::RetiredTag),
         raw::INCOMPLETE => Err(Refusal::Incomplete(answer.value)),
         raw::HICKUP => Err(Refusal::Hickup(Reason::of(answer.value))),
         raw::UNRECOVERABLE => Err(Refusal::Unrecoverable),
@@ -257,6 +260,7 @@ mod tests {
         let mut out = [9; raw::MESSAGE_SIZE + 7];
         assert_eq!(raw::message(&[0x22, 7, 0, 8], &[], false, &mut out).number, raw::INCOMPLETE);
         assert_eq!(raw::message(&[0x22, 7, 0, 8], &[1], false, &mut out).number, raw::BAD_FILTER);
+        assert_eq!(raw::message(&[0x22, 7, 0, 8], &[6, 0, 8, 0, 0, 0, 0, 0, 0, 0, 0], false, &mut out).number, raw::RETIRED_TAG);
         assert_eq!(raw::message(&[0x22, 7, 0, 3], &[], false, &mut out).number, raw::HICKUP);
         assert_eq!(raw::message(&[0x22, 7, 0, 7, 0, 0, 0], &[], false, &mut out).number, raw::UNRECOVERABLE);
         assert_eq!(out, [9; raw::MESSAGE_SIZE + 7]);

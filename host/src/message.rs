@@ -92,7 +92,8 @@ pub struct RawCursor {
     pub big_endian: bool,
 }
 
-/// One message at the front of the bytes, under a filter (document 01, "Filter bytes"; empty for none), with how many bytes were used.
+/// One message at the front of the bytes, under a filter (document 01, "Filter bytes", without counts; empty for none), with how many bytes were used.
+/// A message without an extended header is never filtered out.
 ///
 /// ```
 /// use host::{message, Parsed, Reason, Refusal};
@@ -100,6 +101,7 @@ pub struct RawCursor {
 /// assert_eq!(message(&[0x20, 7, 0, 3], &[], false), Err(Refusal::Hickup(Reason::Length)));
 /// assert_eq!(message(&[0x20, 7, 0, 7, 0, 0, 0], &[], false), Err(Refusal::Unrecoverable));
 /// assert_eq!(message(&[], &[9], false), Err(Refusal::BadFilter));
+/// assert_eq!(message(&[], &[5, 0, 8, 0, 0, 0, 0, 0, 0, 0, 1], false), Err(Refusal::RetiredTag));
 /// let (parsed, used) = message(&[0x20, 7, 0, 8, 0, 0, 0, 42], &[], false).unwrap();
 /// assert!(matches!(parsed, Parsed::Item(_)) && used == 8);
 /// ```

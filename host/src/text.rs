@@ -6,6 +6,7 @@ use std::fmt::Write;
 fn refusal(refusal: Refusal) -> String {
     match refusal {
         Refusal::BadFilter => "1".to_string(),
+        Refusal::RetiredTag => "13".to_string(),
         Refusal::Incomplete(need) => format!("2 {need}"),
         Refusal::Hickup(reason) => format!("3 {}", reason.number()),
         Refusal::Unrecoverable => "4".to_string(),
@@ -211,6 +212,7 @@ pub fn index(cap: usize, at: usize, used: usize, filter: &[u8], bytes: &[u8], li
         Ok(Indexed { state, taken, end: End::Full }) => (7, state, taken, dash()),
         Ok(Indexed { state, taken, end: End::Paused }) => (8, state, taken, dash()),
         Err(IndexRefusal::BadFilter) => (1, state, 0, dash()),
+        Err(IndexRefusal::RetiredTag) => (13, state, 0, dash()),
         Err(IndexRefusal::BadState) => (5, state, 0, dash()),
         Err(IndexRefusal::TooLong) => (6, state, 0, dash()),
     };

@@ -80,6 +80,8 @@ pub const NO_LIMIT: usize = usize::MAX;
 pub enum IndexRefusal {
     /// The filter's bytes break a rule.
     BadFilter,
+    /// The filter has a count (tag 5 or 6), and else keeps every rule: rewrite it with the program `rewriter`.
+    RetiredTag,
     /// More entries are used than the table holds.
     BadState,
     /// Resume position plus bytes exceed 4,294,967,295.
@@ -110,6 +112,7 @@ pub fn index(bytes: &[u8], filter: &[u8], state: State, table: &mut [Entry], n: 
         raw::FULL => End::Full,
         raw::PAUSED => End::Paused,
         raw::BAD_FILTER => return Err(IndexRefusal::BadFilter),
+        raw::RETIRED_TAG => return Err(IndexRefusal::RetiredTag),
         raw::BAD_STATE => return Err(IndexRefusal::BadState),
         _ => return Err(IndexRefusal::TooLong),
     };

@@ -8,7 +8,7 @@ use crate::parse::{
 };
 use crate::request::{self, Request};
 use crate::text::{ended, guarded, or_dash, refusal, text, used, Line};
-use crate::{arguments, message};
+use crate::{arguments, message, retire};
 use std::convert::TryFrom;
 use std::io::{BufRead, Write};
 use std::panic::{catch_unwind, AssertUnwindSafe};
@@ -58,6 +58,7 @@ fn ask(request: &Request) -> Line {
         Request::List { bytes } => index::listing(bytes, "|"),
         Request::MessageInfo { byte } => message_info(*byte),
         Request::TypeInfo { word } => type_info(*word),
+        Request::Retire { filter } => retire::answer(filter),
         Request::Why { of } => ask_why(of),
     }
 }

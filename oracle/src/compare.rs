@@ -3,6 +3,7 @@
 use crate::answer::{answer, be_silent_in_panics};
 use crate::request::LONGEST_LINE;
 use crate::requests::kinds;
+use crate::retire;
 use std::io::{BufWriter, Read, Write};
 use std::process::{Command, Stdio};
 
@@ -106,15 +107,24 @@ impl Both<'_> {
 
     fn hold(&mut self, request: &str, ours: &str) {
         self.requests += 1;
-        let theirs = answer(request.as_bytes());
-        if theirs == ours {
+        let Some(theirs) = difference(request, ours) else {
             return;
-        }
+        };
         self.differ += 1;
         if self.differ == 1 {
             println!("request: {request}\ncrate:   {theirs}\nours:    {ours}");
         }
     }
+}
+
+/// What the crate says, where that isn't what our side says. Of a filter that our side has rewritten it is also asked
+/// what it does with messages.
+fn difference(request: &str, ours: &str) -> Option<String> {
+    let theirs = answer(request.as_bytes());
+    if theirs != ours {
+        return Some(theirs);
+    }
+    request.strip_prefix("retire ").and_then(|filter| retire::other_verdict(filter, ours))
 }
 
 /// What our side answers to a batch, and how it ended.

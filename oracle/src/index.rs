@@ -1,6 +1,6 @@
 //! Document 01's trace index and listing, over the crate's `dlt_message`.
 
-use crate::filter;
+use crate::filter::{self, Filter};
 use crate::filtering::ProcessedDltFilterConfig;
 use crate::message::{bytes_before_pattern, places, STORAGE_HEADER};
 use crate::parse::{dlt_message, DltParseError, ParsedMessage};
@@ -71,7 +71,13 @@ pub struct Walk {
 /// No limit.
 pub const NONE: u64 = u64::MAX;
 
-fn walk(bytes: &[u8], resume: u64, room: usize, limit: u64, filter: Option<&ProcessedDltFilterConfig>) -> Result<Walk, String> {
+fn walk(
+    bytes: &[u8],
+    resume: u64,
+    room: usize,
+    limit: u64,
+    filter: Option<&ProcessedDltFilterConfig>,
+) -> Result<Walk, String> {
     let mut entries = Vec::new();
     let mut at = 0;
     loop {
@@ -81,7 +87,9 @@ fn walk(bytes: &[u8], resume: u64, room: usize, limit: u64, filter: Option<&Proc
         }
         match step(&bytes[at..], filter)? {
             Step::Wait { need } => return Ok(Walk { entries, resume: position, end: End::Waits(need) }),
-            Step::Take { .. } if entries.len() == room => return Ok(Walk { entries, resume: position, end: End::Full }),
+            Step::Take { .. } if entries.len() == room => {
+                return Ok(Walk { entries, resume: position, end: End::Full })
+            }
             Step::Take { skipped, length, kind } => {
                 entries.push(Entry { start: position + skipped as u64, skipped, length, kind });
                 at += skipped + length;
@@ -98,17 +106,31 @@ pub struct State {
 }
 
 /// The answer's number, the state handed back, and the walk if there was one.
-pub fn call(table: usize, state: State, filter: &[u8], bytes: &[u8], limit: u64) -> Result<(u8, State, Option<Walk>), String> {
-    let Some(filter) = filter::read(filter) else {
-        return Ok((1, state, None));
-    };
+type Called = (u8, State, Option<Walk>);
+
+fn call(table: usize, state: State, filter: &[u8], bytes: &[u8], limit: u64) -> Result<Called, String> {
+    match filter::read(filter) {
+        Filter::Bad => Ok((1, state, None)),
+        Filter::Retired => Ok((13, state, None)),
+        Filter::Good(filter) => call_under(filter.as_ref(), table, state, bytes, limit),
+    }
+}
+
+/// The same under a filter of the crate.
+pub fn call_under(
+    filter: Option<&ProcessedDltFilterConfig>,
+    table: usize,
+    state: State,
+    bytes: &[u8],
+    limit: u64,
+) -> Result<Called, String> {
     if state.used > table as u64 {
         return Ok((5, state, None));
     }
     if u128::from(state.resume) + bytes.len() as u128 > LAST_POSITION {
         return Ok((6, state, None));
     }
-    let walk = walk(bytes, state.resume, table - state.used as usize, limit, filter.as_ref())?;
+    let walk = walk(bytes, state.resume, table - state.used as usize, limit, filter)?;
     let number = match walk.end {
         End::Waits(_) => 0,
         End::Full => 7,

@@ -19,6 +19,7 @@ pub mod list;
 mod message;
 pub mod request;
 pub mod requests;
+mod retire;
 mod text;
 
 #[allow(dead_code)]

@@ -3,6 +3,7 @@
 use crate::answer::{answer, be_silent_in_panics};
 use crate::check::written_answers;
 use crate::requests::{kinds, Kind};
+use crate::retire::twin;
 use std::collections::HashSet;
 use std::fs;
 use std::path::Path;
@@ -15,10 +16,14 @@ const MOST_OF_A_KIND: u64 = 2_500;
 /// The same of a kind of `why`.
 const MOST_OF_A_WHY: u64 = 66;
 
+/// The same of old filters.
+const MOST_OF_RETIRE: u64 = 360;
+
 /// Longer lines are left to `compare`.
 const LONGEST_LISTED: usize = 400;
 
-/// Both files together stay below this, but for the lines of `why`: they stand behind the others and take no room from them.
+/// Both files together stay below this, but for what stands behind the others and takes no room from them: the lines of
+/// `why`, the twins without counts of all these, and the lines of `retire`.
 const MOST_BYTES: usize = 1_500_000;
 
 /// A few lines that can't be read.
@@ -32,6 +37,7 @@ pub fn list(design: &Path, folder: &Path, words: &[&str]) -> Result<bool, String
     for word in words {
         chosen.extend(kinds(word)?);
     }
+    let (retire, chosen): (Vec<&Kind>, Vec<&Kind>) = chosen.into_iter().partition(|kind| kind.is_retire());
     let (why, others): (Vec<&Kind>, Vec<&Kind>) = chosen.into_iter().partition(|kind| kind.is_why());
     let written = written_answers(design)?;
     let mut count = MOST_OF_A_KIND;
@@ -41,6 +47,8 @@ pub fn list(design: &Path, folder: &Path, words: &[&str]) -> Result<bool, String
         files = self::files(&others, &written, count);
     }
     why.iter().for_each(|kind| kind.make_short(MOST_OF_A_WHY, SEED, &mut |line| files.add(line)));
+    files.add_twins();
+    files.add_kinds(&retire, &written, MOST_OF_RETIRE);
     write(folder, "stdin", &files.requests)?;
     write(folder, "stdout", &files.answers)?;
     let lines = files.requests.lines().count();
@@ -71,16 +79,27 @@ impl Files {
             self.answers.push('\n');
         }
     }
+
+    /// To each request whose filter has counts the same without them.
+    fn add_twins(&mut self) {
+        let twins: Vec<String> = self.requests.lines().filter_map(twin).collect();
+        twins.iter().for_each(|line| self.add(line));
+    }
+
+    /// Of each kind the written requests, the tiny ones and so many more.
+    fn add_kinds(&mut self, kinds: &[&Kind], written: &[(String, String)], count: u64) {
+        for kind in kinds {
+            let of_kind = |request: &&(String, String)| request.0.split(' ').next() == Some(kind.name);
+            written.iter().filter(of_kind).for_each(|(request, _)| self.add(request));
+            kind.make_short(count, SEED, &mut |line| self.add(line));
+        }
+    }
 }
 
 /// The files of some kinds.
 fn files(kinds: &[&Kind], written: &[(String, String)], count: u64) -> Files {
     let mut files = Files::default();
     UNREADABLE.iter().for_each(|line| files.add(line));
-    for kind in kinds {
-        let of_kind = |request: &&(String, String)| request.0.split(' ').next() == Some(kind.name);
-        written.iter().filter(of_kind).for_each(|(request, _)| files.add(request));
-        kind.make_short(count, SEED, &mut |line| files.add(line));
-    }
+    files.add_kinds(kinds, written, count);
     files
 }

@@ -5,7 +5,8 @@
 
 use crate::arguments::{label, label_ended, network_trace, verbose};
 use crate::dlt::{Endianness, ExtendedHeader, Message, MessageType, PayloadContent};
-use crate::filter;
+use crate::filter::{self, Filter};
+use crate::filtering::ProcessedDltFilterConfig;
 use crate::parse::{dlt_message, forward_to_next_storage_header, ParsedMessage};
 use crate::text::{disagree, ended, expect, guarded, or_dash, refusal, text, used, Line};
 
@@ -15,10 +16,16 @@ const ID: usize = 4;
 
 /// With `why`, an item also says why each of its texts ended.
 pub fn answer(storage: bool, filter: &[u8], bytes: &[u8], why: bool) -> Line {
-    let Some(filter) = filter::read(filter) else {
-        return Ok("1".to_string());
-    };
-    match guarded(|| dlt_message(bytes, filter.as_ref(), storage))? {
+    match filter::read(filter) {
+        Filter::Bad => Ok("1".to_string()),
+        Filter::Retired => Ok("13".to_string()),
+        Filter::Good(filter) => answer_under(filter.as_ref(), storage, bytes, why),
+    }
+}
+
+/// The same under a filter of the crate.
+pub fn answer_under(filter: Option<&ProcessedDltFilterConfig>, storage: bool, bytes: &[u8], why: bool) -> Line {
+    match guarded(|| dlt_message(bytes, filter, storage))? {
         Err(error) => refusal(&error),
         Ok((rest, ParsedMessage::Item(message))) => item(bytes, used(bytes, rest)?, storage, &message, why),
         Ok((rest, ParsedMessage::FilteredOut(length))) => filtered(bytes, used(bytes, rest)?, storage, length),

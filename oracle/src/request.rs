@@ -19,6 +19,7 @@ pub enum Request {
     List { bytes: Vec<u8> },
     MessageInfo { byte: u8 },
     TypeInfo { word: u32 },
+    Retire { filter: Vec<u8> },
     Why { of: Box<Request> },
 }
 
@@ -68,6 +69,7 @@ fn read_words(words: &[&[u8]]) -> Option<Request> {
         [b"list", bytes] => Some(Request::List { bytes: hex(bytes)? }),
         [b"mi", [high, low]] => Some(Request::MessageInfo { byte: digit(*high)? * 16 + digit(*low)? }),
         [b"ti", word] => Some(Request::TypeInfo { word: hex_word(word)? }),
+        [b"retire", filter] => Some(Request::Retire { filter: hex(filter)? }),
         _ => None,
     }
 }
@@ -108,7 +110,7 @@ fn digit(b: u8) -> Option<u8> {
 }
 
 /// `-`, or pairs of hex digits, at least one.
-fn hex(word: &[u8]) -> Option<Vec<u8>> {
+pub fn hex(word: &[u8]) -> Option<Vec<u8>> {
     if word == b"-" {
         return Some(Vec::new());
     }

@@ -7,7 +7,7 @@ pub const TINY: &[Section] = &[written];
 pub const SECTIONS: &[Section] = &[written, spoilt_examples];
 
 /// Lines at the edges of the rule in README.md.
-const WRITTEN: [&str; 82] = [
+const WRITTEN: [&str; 95] = [
     "",
     " ",
     "-",
@@ -90,6 +90,19 @@ const WRITTEN: [&str; 82] = [
     "why index 1 0 0 - -",
     "why ti 10",
     "whyzts 1 41",
+    "retire",
+    "retire ",
+    "retire -",
+    "retire --",
+    "retire 5",
+    "retire 0500080000000000000001 ",
+    "retire 0500080000000000000001 -",
+    "retire  0500080000000000000001",
+    "retire 050008000000000000000g",
+    "retire 05 00 08 00 00 00 00 00 00 00 01",
+    "RETIRE -",
+    "retires -",
+    "why retire -",
 ];
 
 fn written(_: &mut Rng, emit: Emit) {
@@ -114,6 +127,7 @@ fn spoilt_examples(_: &mut Rng, emit: Emit) {
         "why zts 2 c328",
         "why msg 0 - 20070003",
         "why args l 200 0200c3",
+        "retire 0500080000000000000001",
     ] {
         for place in 0..line.len() {
             let (before, rest) = line.split_at(place);

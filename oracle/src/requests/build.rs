@@ -2,6 +2,7 @@
 
 use super::random::Rng;
 use super::strings::BOUNDARY;
+use crate::filter::Old;
 
 pub const PATTERN: [u8; 4] = [0x44, 0x4c, 0x54, 0x01];
 
@@ -24,6 +25,9 @@ pub const IDS: [[u8; 4]; 12] = [
 /// Those of them that a filter may hold.
 pub const FILTER_IDS: [[u8; 4]; 8] =
     [*b"APP\0", *b"ECU1", *b"A\0\0\0", *b"\0\0\0\0", *b"\xc3\xa9\0\0", *b"AB\xc3\xa9", *b"\xf0\x9f\x98\x80", *b"CTX\0"];
+
+/// Counts that a filter could have: fewer, as many and more than it holds ids, and the ends of their range.
+pub const COUNTS: [i64; 10] = [0, 1, 2, 4, 5, 8, 9, -1, i64::MAX, i64::MIN];
 
 /// Patterns of floats of 32 bits: zeros, smallest, largest, infinite, every class of not-a-number.
 pub const FLOATS32: [u32; 16] = [
@@ -339,8 +343,21 @@ pub fn id_set(rng: &mut Rng) -> Vec<u8> {
     chosen.flat_map(|place| FILTER_IDS[place]).collect()
 }
 
-/// A filter that mostly keeps the rules.
+/// A filter that mostly keeps the rules. Of the good ones one in sixteen has counts, unless they keep all that are drawn.
 pub fn filter(rng: &mut Rng) -> Vec<u8> {
+    let drawn = old_filter(rng);
+    // counts are drawn for five in nine
+    if rng.keeps_counts || rng.one_in(9) {
+        return drawn;
+    }
+    match Old::read(&drawn) {
+        Some(old) => old.without_counts(),
+        None => drawn,
+    }
+}
+
+/// A filter of the time when counts belonged to it.
+fn old_filter(rng: &mut Rng) -> Vec<u8> {
     let mut bytes = Vec::new();
     if rng.one_in(3) {
         bytes.extend(filter_field(1, &[rng.between(1, 6) as u8]));
@@ -352,7 +369,7 @@ pub fn filter(rng: &mut Rng) -> Vec<u8> {
     }
     for tag in 5..=6 {
         if rng.one_in(3) {
-            let count = rng.pick(&[0, 1, 2, 4, 5, 8, 9, -1, i64::MAX, i64::MIN]);
+            let count = rng.pick(&COUNTS);
             bytes.extend(filter_field(tag, &count.to_be_bytes()));
         }
     }

@@ -3,11 +3,15 @@
 use super::build::{damage, filter, filter_or_none, junk, stored_message, PATTERN};
 use super::random::Rng;
 use super::{hex, Emit, Section};
-use crate::index::{call, State, NONE};
+use crate::filter::Old;
+use crate::index::{call_under, State, NONE};
 
 pub const TINY: &[Section] = &[];
 pub const SECTIONS: &[Section] = &[tables, cuts, carried_on, refusals, long_traces];
 pub const LIMITED: &[Section] = &[limits, paused_and_carried_on, limited_refusals, long_limits];
+
+/// A filter with a count.
+const RETIRED: [u8; 11] = [5, 0, 8, 0, 0, 0, 0, 0, 0, 0, 0];
 
 const FRESH: State = State { resume: 0, used: 0 };
 
@@ -67,6 +71,14 @@ fn carried_on(rng: &mut Rng, emit: Emit) {
     }
 }
 
+/// The state that a call leaves, under a filter with its counts, if it has any.
+fn carried(table: usize, state: State, filter: &[u8], bytes: &[u8], limit: u64) -> State {
+    let Some(old) = Old::read(filter) else {
+        return state;
+    };
+    call_under(old.with_counts().as_ref(), table, state, bytes, limit).map_or(state, |(_, after, _)| after)
+}
+
 fn carry_on(rng: &mut Rng) -> String {
     let trace = trace(rng, 6);
     let filter = filter_or_none(rng);
@@ -75,15 +87,13 @@ fn carry_on(rng: &mut Rng) -> String {
     let mut end = 0;
     for _ in 0..rng.below(4) {
         end += rng.below(trace.len() - end + 1);
-        if let Ok((_, after, _)) = call(table, state, &filter, &trace[state.resume as usize..end], NONE) {
-            state = after;
-        }
+        state = carried(table, state, &filter, &trace[state.resume as usize..end], NONE);
     }
     end += rng.below(trace.len() - end + 1);
     request(table, state, &filter, &trace[state.resume as usize..end])
 }
 
-/// Bad filters, states that don't fit the table, positions near the last one.
+/// Bad filters and filters with a count, states that don't fit the table, positions near the last one.
 fn refusals(rng: &mut Rng, emit: Emit) {
     const LAST: u64 = 4_294_967_295;
     for _ in 0..12 {
@@ -93,7 +103,7 @@ fn refusals(rng: &mut Rng, emit: Emit) {
             [LAST - length - 1, LAST - length, LAST - length + 1, LAST, LAST + 1, u64::MAX, u64::MAX - length, 0];
         for resume in near_last {
             for used in [0, 1, 2, 3, u64::MAX] {
-                for filter in [&[][..], &[0], &[1, 0, 1, 7], &[1, 0, 1, 2]] {
+                for filter in [&[][..], &[0], &[1, 0, 1, 7], &[1, 0, 1, 2], &RETIRED, &[&RETIRED[..], &[0]].concat()] {
                     emit(&request(2, State { resume, used }, filter, &trace));
                 }
             }
@@ -167,9 +177,7 @@ fn pause_and_carry_on(rng: &mut Rng) -> String {
     let mut end = 0;
     for _ in 0..rng.below(4) {
         end += rng.below(trace.len() - end + 1);
-        if let Ok((_, after, _)) = call(table, state, &filter, &trace[state.resume as usize..end], some_limit(rng)) {
-            state = after;
-        }
+        state = carried(table, state, &filter, &trace[state.resume as usize..end], some_limit(rng));
     }
     end += rng.below(trace.len() - end + 1);
     limited(table, state, &filter, &trace[state.resume as usize..end], some_limit(rng))
@@ -181,7 +189,7 @@ fn limited_refusals(rng: &mut Rng, emit: Emit) {
     let last = 4_294_967_295 - trace.len() as u64;
     for resume in [0, last, last + 1] {
         for used in [0, 2, 3] {
-            for filter in [&[][..], &[0], &[1, 0, 1, 2]] {
+            for filter in [&[][..], &[0], &[1, 0, 1, 2], &RETIRED] {
                 for limit in [0, 1, NONE] {
                     emit(&limited(2, State { resume, used }, filter, &trace, limit));
                 }

@@ -12,6 +12,7 @@ mod index;
 pub mod messages;
 mod needs;
 pub mod random;
+mod retire;
 mod signals;
 mod strings;
 mod why;
@@ -31,8 +32,11 @@ pub struct Kind {
     random: fn(&mut Rng) -> String,
 }
 
+/// The kind of old filters.
+const RETIRE: &str = "retire";
+
 /// Every kind but those of `why`, in the order in which `all` goes through them.
-pub const KINDS: [Kind; 14] = [
+pub const KINDS: [Kind; 15] = [
     Kind { name: "zts", tiny: strings::TINY, sections: strings::SECTIONS, random: strings::random },
     Kind { name: "fwd", tiny: fields::FORWARD_TINY, sections: fields::FORWARD, random: fields::random_forward },
     Kind { name: "skip", tiny: fields::SKIP_TINY, sections: fields::SKIP, random: fields::random_skip },
@@ -51,6 +55,7 @@ pub const KINDS: [Kind; 14] = [
     Kind { name: "limited", tiny: index::TINY, sections: index::LIMITED, random: index::random_limited },
     Kind { name: "net", tiny: messages::TRACES_TINY, sections: messages::TRACES, random: messages::random_trace },
     Kind { name: "ids", tiny: identifiers::TINY, sections: identifiers::SECTIONS, random: identifiers::random },
+    Kind { name: RETIRE, tiny: retire::TINY, sections: retire::SECTIONS, random: retire::random },
     Kind { name: "bad", tiny: bad::TINY, sections: bad::SECTIONS, random: bad::random },
 ];
 
@@ -82,6 +87,10 @@ impl Kind {
         WHY.iter().any(|kind| kind.name == self.name)
     }
 
+    pub fn is_retire(&self) -> bool {
+        self.name == RETIRE
+    }
+
     /// Makes `count` requests: an even sample of the fixed part if it is larger
     /// than that, else all of it and random ones. With no count: the fixed part and some.
     pub fn make(&self, count: Option<u64>, seed: u64, emit: Emit) {
@@ -89,55 +98,59 @@ impl Kind {
         let count = count.unwrap_or(fixed + RANDOM_BY_DEFAULT);
         let mut number = 0;
         for section in 0..self.sections.len() {
-            self.run(section, seed, &mut |line| {
+            self.run(section, self.rng(section, seed), &mut |line| {
                 if is_sampled(number, fixed, count) {
                     emit(line);
                 }
                 number += 1;
             });
         }
-        self.make_random(count.saturating_sub(fixed), seed, emit);
+        self.make_random(count.saturating_sub(fixed), self.random_rng(seed), emit);
     }
 
     /// A short list: the tiny sections, then `count` more, the same number from
-    /// each section and of random ones.
+    /// each section and of random ones. Filters keep all their counts.
     pub fn make_short(&self, count: u64, seed: u64, emit: Emit) {
         for section in self.tiny {
-            section(&mut Rng::new(seed), emit);
+            section(&mut Rng::new(seed).keeping_counts(), emit);
         }
         let share = count / (self.sections.len() as u64 + 1);
         for section in 0..self.sections.len() {
-            let size = self.section_size(section, seed);
+            let rng = || self.rng(section, seed).keeping_counts();
+            let size = self.section_size(section, rng());
             let mut number = 0;
-            self.run(section, seed, &mut |line| {
+            self.run(section, rng(), &mut |line| {
                 if is_sampled(number, size, share) {
                     emit(line);
                 }
                 number += 1;
             });
         }
-        self.make_random(share, seed, emit);
+        self.make_random(share, self.random_rng(seed).keeping_counts(), emit);
     }
 
-    fn make_random(&self, count: u64, seed: u64, emit: Emit) {
-        let mut rng = self.rng(self.sections.len(), seed);
+    fn make_random(&self, count: u64, mut rng: Rng, emit: Emit) {
         for _ in 0..count {
             emit(&(self.random)(&mut rng));
         }
     }
 
-    fn run(&self, section: usize, seed: u64, emit: Emit) {
-        self.sections[section](&mut self.rng(section, seed), emit);
+    fn run(&self, section: usize, mut rng: Rng, emit: Emit) {
+        self.sections[section](&mut rng, emit);
     }
 
-    fn section_size(&self, section: usize, seed: u64) -> u64 {
+    fn section_size(&self, section: usize, rng: Rng) -> u64 {
         let mut size = 0;
-        self.run(section, seed, &mut |_| size += 1);
+        self.run(section, rng, &mut |_| size += 1);
         size
     }
 
     fn fixed_size(&self, seed: u64) -> u64 {
-        (0..self.sections.len()).map(|section| self.section_size(section, seed)).sum()
+        (0..self.sections.len()).map(|section| self.section_size(section, self.rng(section, seed))).sum()
+    }
+
+    fn random_rng(&self, seed: u64) -> Rng {
+        self.rng(self.sections.len(), seed)
     }
 
     /// Each section has numbers of its own, so that one can be changed without the others.
@@ -154,7 +167,7 @@ fn is_sampled(number: u64, size: u64, count: u64) -> bool {
 }
 
 /// Bytes in hex, `-` for none.
-fn hex(bytes: &[u8]) -> String {
+pub fn hex(bytes: &[u8]) -> String {
     if bytes.is_empty() {
         return "-".to_string();
     }

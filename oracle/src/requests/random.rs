@@ -1,15 +1,25 @@
 //! Numbers that look random and are the same for the same seed (splitmix64).
 
-pub struct Rng(u64);
+pub struct Rng {
+    state: u64,
+    /// Filters keep all the counts that are drawn for them.
+    pub keeps_counts: bool,
+}
 
 impl Rng {
     pub fn new(seed: u64) -> Rng {
-        Rng(seed)
+        Rng { state: seed, keeps_counts: false }
     }
 
+    pub fn keeping_counts(self) -> Rng {
+        Rng { keeps_counts: true, ..self }
+    }
+
+    // an iterator's would have an end
+    #[allow(clippy::should_implement_trait)]
     pub fn next(&mut self) -> u64 {
-        self.0 = self.0.wrapping_add(0x9e37_79b9_7f4a_7c15);
-        let mut z = self.0;
+        self.state = self.state.wrapping_add(0x9e37_79b9_7f4a_7c15);
+        let mut z = self.state;
         z = (z ^ z >> 30).wrapping_mul(0xbf58_476d_1ce4_e5b9);
         z = (z ^ z >> 27).wrapping_mul(0x94d0_49bb_1331_11eb);
         z ^ z >> 31

@@ -5,7 +5,7 @@
 //! walks limits COUNT SEED: the same, with random limits, 0 among them: each call against the oracle's walk with that limit, and all of them against one call
 //! of the oracle without.
 
-use host::{End, Entry, Indexed, State, NO_LIMIT};
+use host::{End, Entry, IndexRefusal, Indexed, State, NO_LIMIT};
 use std::{fs, path::Path, process::exit};
 
 struct Random(u64);
@@ -24,26 +24,29 @@ impl Random {
 }
 
 /// Calls one after another: each is given the bytes from the resume position on, up to the next cut, and stops after `n` entries; where it was Paused it is
-/// repeated. What lies before the resume position is overwritten. Refused: None. The number taken is that of all the calls.
-fn in_pieces(bytes: &[u8], cuts: &[usize], filter: &[u8], table: &mut [Entry], n: usize) -> Option<Indexed> {
+/// repeated. What lies before the resume position is overwritten. The number taken is that of all the calls.
+fn in_pieces(bytes: &[u8], cuts: &[usize], filter: &[u8], table: &mut [Entry], n: usize) -> Result<Indexed, IndexRefusal> {
     let mut all = Indexed { state: State::default(), taken: 0, end: End::Paused };
     let mut held = bytes.to_vec();
     for end in cuts.iter().copied().chain([bytes.len()]) {
         loop {
             held[..all.state.at].fill(0x44);
-            let one = host::index(&held[all.state.at..end], filter, all.state, table, n).ok()?;
+            let one = host::index(&held[all.state.at..end], filter, all.state, table, n)?;
             all = Indexed { taken: all.taken + one.taken, ..one };
             if one.end != End::Paused {
                 break;
             }
         }
     }
-    Some(all)
+    Ok(all)
 }
 
 fn listed(bytes: &[u8], cuts: &[usize], cap: usize, n: usize) -> String {
     let mut table = vec![Entry::default(); cap];
-    let Some(all) = in_pieces(bytes, cuts, &[], &mut table, n) else { return "refused".to_string() };
+    let all = match in_pieces(bytes, cuts, &[], &mut table, n) {
+        Ok(all) => all,
+        Err(refusal) => return refused(refusal),
+    };
     if all.taken != all.state.used {
         return format!("{} taken, {} used", all.taken, all.state.used);
     }
@@ -124,11 +127,20 @@ fn told(all: &Indexed, table: &[Entry], from: usize) -> String {
     text
 }
 
+/// How a refusal of either side is told.
+fn refused(refusal: IndexRefusal) -> String {
+    format!("{refusal:?}")
+}
+
 /// The oracle's answer from that state, with this limit.
 fn asked(cap: usize, state: State, filter: &[u8], bytes: &[u8], n: usize) -> String {
     let given = oracle::index::State { resume: state.at as u64, used: state.used as u64 };
     let line = oracle::index::answer(cap, given, filter, bytes, Some(n as u64)).unwrap_or_else(|problem| problem);
-    if line.starts_with("1 ") { "refused".to_string() } else { line }
+    match line.split(' ').next() {
+        Some("1") => refused(IndexRefusal::BadFilter),
+        Some("13") => refused(IndexRefusal::RetiredTag),
+        _ => line,
+    }
 }
 
 struct Trace {
@@ -159,7 +171,7 @@ fn random(count: u64, seed: u64) -> Result<bool, String> {
     traces(count, seed, &mut dice, &mut |_, trace| {
         let mut table = vec![Entry::default(); trace.cap];
         let ours = in_pieces(&trace.bytes, &trace.cuts, &trace.filter, &mut table, NO_LIMIT);
-        let ours = ours.map_or("refused".to_string(), |all| {
+        let ours = ours.map_or_else(refused, |all| {
             entries += all.taken as u64;
             told(&all, &table, 0)
         });
@@ -198,8 +210,9 @@ fn with_limits(dice: &mut Random, trace: &Trace) -> (u64, u64, u64) {
             held[..from.at].fill(0x44);
             let theirs = asked(trace.cap, from, &trace.filter, &trace.bytes[from.at..end], n);
             calls += 1;
-            let Ok(one) = host::index(&held[from.at..end], &trace.filter, from, &mut table, n) else {
-                return (calls, paused, wrong + u64::from(theirs != "refused"));
+            let one = match host::index(&held[from.at..end], &trace.filter, from, &mut table, n) {
+                Ok(one) => one,
+                Err(refusal) => return (calls, paused, wrong + u64::from(theirs != refused(refusal))),
             };
             wrong += u64::from(told(&one, &table, from.used) != theirs);
             all = Indexed { taken: all.taken + one.taken, ..one };

@@ -57,14 +57,12 @@ fn filter(rng: &mut Rng, kind: usize) -> Vec<u8> {
     }
 }
 
-/// A level, and each of the other five tags half of the time.
+/// A level, and each of the three sets half of the time.
 fn several_tags(rng: &mut Rng) -> Vec<u8> {
     let mut bytes = filter_field(1, &[rng.between(1, 6) as u8]);
-    for tag in 2..=6 {
+    for tag in 2..=4 {
         if rng.one_in(2) {
-            let count: i64 = rng.pick(&[0, 1, 3, 5, 9, -1, i64::MAX]);
-            let value = if tag <= 4 { id_set(rng) } else { count.to_be_bytes().to_vec() };
-            bytes.extend(filter_field(tag, &value));
+            bytes.extend(filter_field(tag, &id_set(rng)));
         }
     }
     bytes
