@@ -6,11 +6,12 @@ use native.Mathlib.Nat.{one-mul}
 use lib.ListN.{length, take, drop}
 use mathlib.Core.Bool.{true}
 use Rattle.wire.specs.Answer.Ans.{done}
-use Rattle.filter.specs.Filter.{filterOf}
-use Rattle.filter.specs.declared.Filter.{Filter}
-use Rattle.filter.specs.declared.FilterAns.{FilterAns}
+use Rattle.mark.specs.First.{pattern, find}
+use Rattle.mark.specs.declared.Found.{Found}
+use Rattle.headertype.specs.HeaderType.{overallLength}
+use Rattle.headertype.specs.declared.StandardHeader.{StandardHeader}
+use Rattle.headers.specs.Standard.{standard}
 use Rattle.worth.specs.Opening.{Opening, opening}
-use Rattle.worth.specs.Need.{ByLength}
 use Rattle.walk.specs.Walk.{Ends}
 use Rattle.index.specs.Index.{limit, Refuses, endOf, refused, walkOf, call}
 use Rattle.index.specs.Calls.{unlimited, whole, adding, next, over-trace, calls, joined, repeated, Above, total, WaitOver, SameEntries, Alike}
@@ -94,9 +95,15 @@ module _ (f : List ℕ) where
   pub worth-the-wait : (n : ℕ) (s t : List ℕ) (st : State) (T : List Entry) (v : ℕ) (l : Opening) (behind : ℕ) → st .at + length (s ++ t) ≤ limit
       → call entryForm f n s st T .answer .end ≡ End.Waits v
       → opening true (drop (call entryForm f n s st T .answer .state .at - st .at) s) 0 ≡ done l behind
-      → ((filter : Filter) → filterOf f ≡ FilterAns.Good filter → ByLength f filter (drop (call entryForm f n s st T .answer .state .at - st .at) s) l)
       → length t ≡ v → WaitOver (length T) (call entryForm f n s st T) (call entryForm f n (s ++ t) st T)
   worth-the-wait = any.worth-the-wait entryForm entry-sound f
+
+  -- it is never for a byte past a declared end
+  pub never-past : (n : ℕ) (s : List ℕ) (st : State) (T : List Entry) (v k : ℕ) (h : StandardHeader) (b : ℕ) → call entryForm f n s st T .answer .end ≡ End.Waits v
+      → find pattern (drop (call entryForm f n s st T .answer .state .at - st .at) s) 0 ≡ Found.At k
+      → standard (drop (call entryForm f n s st T .answer .state .at - st .at) s) (k + 16) ≡ done h b
+      → (1 ≤ v) × (length (drop (call entryForm f n s st T .answer .state .at - st .at) s) + v ≤ k + 16 + overallLength h)
+  never-past = any.never-past entryForm entry-sound f
 
   -- entries that were written stay, and so do those beyond the ones used
   pub kept-before : (n : ℕ) (s : List ℕ) (st : State) (T : List Entry) → take (st .used) (call entryForm f n s st T .table) ≡ take (st .used) T

@@ -18,7 +18,7 @@ use index::State;
 use messageinfo::OptLevel;
 use step::Heard;
 
-// An entry of the table. The kinds: 0 item, 1 filtered, 2 hickup, 3 unrecoverable.
+// An entry of the table. The kinds: 0 item, 1 filtered, 2 hickup, 3 unrecoverable, 4 overrun.
 pub struct Entry {
     pub start: u64,
     pub skipped: u64,

@@ -16,7 +16,7 @@
 /* The number of this interface: it goes up when a size, a place, an answer or a call here changes. 2: texts say why they ended; before it a message had 33
    numbers and an argument 23. 3: a filter with a count is answered DLT_RETIRED_TAG; before it such a filter was read. An archive tells its sizes itself:
    dlt_message and dlt_argument, asked with out_len 0, answer DLT_SHORT_OUT with them. */
-#define DLT_INTERFACE 3
+#define DLT_INTERFACE 4
 
 /* An answer's number. With DLT_INCOMPLETE `value` is the need (0: unknown): of dlt_message fewer bytes never help, and exactly so many decide it if the
    headers are there and the message isn't verbose or the filter drops it (crates/worth). With DLT_HICKUP it is the reason, with DLT_SHORT_OUT how many numbers
@@ -166,7 +166,7 @@ typedef struct {
 #define DLT_ENTRY_START 0               /* of the pattern, counted from the trace's beginning */
 #define DLT_ENTRY_SKIPPED 1             /* bytes before it */
 #define DLT_ENTRY_LENGTH 2              /* 16 plus declared, or 4 */
-#define DLT_ENTRY_KIND 3                /* 0 item, 1 filtered, 2 hickup, 3 unrecoverable */
+#define DLT_ENTRY_KIND 3                /* 0 item, 1 filtered, 2 hickup, 3 unrecoverable, 4 overrun */
 dlt_index_answer dlt_index(const uint8_t *s, size_t s_len, const uint8_t *f, size_t f_len, size_t at, size_t used, uint64_t *table, size_t table_len, size_t n);
 
 #endif

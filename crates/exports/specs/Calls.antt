@@ -19,7 +19,7 @@ use Rattle.signals.specs.Signals.{signalTurn}
 use Rattle.signals.specs.declared.SignalCursor.{SignalCursor}
 use Rattle.signals.specs.declared.SignalTurn.{SignalTurn}
 use Rattle.parse.specs.Message as parse
-use Rattle.parse.specs.Message.{messageOf, numberedMessage}
+use Rattle.parse.specs.Message.{messageOf, numberedAnswer}
 use Rattle.parse.specs.declared.ParsedMessage.{ParsedMessage}
 use Rattle.numbers.specs.Layout.{messageSize, messageLaid}
 use Rattle.numbers.specs.Arguments.{argumentSize, argumentLaid}
@@ -58,8 +58,8 @@ abbrev pub short : ℕ → List ℕ → Outcome
 short size T = told 15 size 0 T
 
 -- ---- dlt_message
-unfoldable pub messageShown : List ℕ → parse.Answer → Outcome
-messageShown T x = shownIn (λ p. 0) (messageLaid T) T (numberedMessage x)
+unfoldable pub messageShown : List ℕ → parse.Answer ParsedMessage → Outcome
+messageShown T x = shownIn (λ p. 0) (messageLaid T) T (numberedAnswer x)
 
 unfoldable pub messageCall : List ℕ → Bool → List ℕ → List ℕ → Outcome
 messageCall f stored s T = pick (leb messageSize (length T)) (messageShown T (messageOf f stored s)) (short messageSize T)

@@ -29,7 +29,7 @@ use Rattle.arguments.specs.Argument.{argument, typeInfo, decoded, kinded, boole
 use Rattle.cursor.specs.Row.{walk}
 use Rattle.cursor.specs.Cursor.{arguments, turn, called}
 use Rattle.cursor.specs.declared.Cursor.{Cursor}
-use Rattle.parse.specs.Message.{Answer, havingFrom, seen, maybeExtended, headersOf, finished, headers, routed, isBig, itemOf, passed, item, body, message, judged, messageOf, numberedMessage}
+use Rattle.parse.specs.Message.{Answer, havingFrom, seen, maybeExtended, headersOf, finished, headers, routed, isBig, itemOf, passed, item, body, message, judged, messageOf, numberedAnswer}
 use Rattle.parse.specs.declared.ParsedMessage.{ParsedMessage}
 
 -- what a sum says of a message: the id of a plain payload, or the values of all arguments that its cursor hands out
@@ -66,8 +66,8 @@ ofCarried (Carried.reason r) s = Carried.reason r
 ofCarried Carried.nothing s = Carried.nothing
 
 -- document 01's number of the answer, and what it carries, of a message what the sum says of it
-abbrev pub ofAnswer : Answer → List ℕ → Numbered Sum
-ofAnswer a s = record { number = numberedMessage a .number; carries = ofCarried (numberedMessage a .carries) s }
+abbrev pub ofAnswer : Answer ParsedMessage → List ℕ → Numbered Sum
+ofAnswer a s = record { number = numberedAnswer a .number; carries = ofCarried (numberedAnswer a .carries) s }
 
 -- with no filter; storage headers or not
 abbrev pub sum : Bool → List ℕ → Numbered Sum

@@ -17,7 +17,8 @@ use Rattle.storage.specs.Storage.{marked, storage, stored, owned, storedOf}
 use Rattle.filter.specs.Filter.{filterOf, fields, wanted, counts, field, tagNext, ending}
 use Rattle.filtering.specs.FilteredOut.{filteredOut, dropsExtended, dropsLevel, dropsId, dropsEcu}
 use Rattle.payload.specs.Payload.{isVerbose, countOf, controlType, networkType, isControl, isNetwork, listOf, verbose, control, plain, payload}
-use Rattle.parse.specs.Message.{havingFrom, seen, maybeExtended, headersOf, finished, headers, routed, isBig, itemOf, passed, item, body, message}
+use Rattle.parse.specs.Message.{havingFrom, seen, maybeExtended, headersOf, finished, headers, routed, isBig, itemOf, passed, item, body}
+use Rattle.confined.specs.Confined.{confined, insideOf, inside, confinedBody, confinedMessage}
 use Rattle.table.specs.Over.{over}
 use Rattle.walk.specs.Walk.{run}
 use Rattle.step.specs.Step.{asked}
@@ -57,7 +58,7 @@ pub trace :
     × (outcome [] unlimited first30 fresh (replicate 12 9) ≡ left 24 1 (End.Waits 0) (item24 ++ replicate 8 9))
     × (outcome [] unlimited (first30 ++ last15) fresh (replicate 4 9) ≡ left 24 1 End.Full item24)
     × (outcome [] unlimited (first30 ++ last15) fresh [] ≡ left 0 0 End.Full [])
-unfolding call judged checked ahead run over asked filterOf fields wanted counts field tagNext ending message routed choose headers _>>=_ here standard number fixed having asking numberOf flagged maybeId maybeNumber identified text endedText textOf endedOf validUpTo upTo sequence among formed ret refuse headerOf endianOf allHeaders overallLength headerTypeByte finished maybeExtended havingFrom seen headersOf filteredOut dropsExtended dropsLevel dropsId dropsEcu body item passed itemOf payload isVerbose isControl controlType networkType countOf isNetwork isBig verbose listOf control plain bytes fail storage marked find firstOf standsAt stored owned storedOf times numeric
+unfolding call judged checked ahead run over asked filterOf fields wanted counts field tagNext ending confinedMessage confinedBody confined inside insideOf routed choose headers _>>=_ here standard number fixed having asking numberOf flagged maybeId maybeNumber identified text endedText textOf endedOf validUpTo upTo sequence among formed ret refuse headerOf endianOf allHeaders overallLength headerTypeByte finished maybeExtended havingFrom seen headersOf filteredOut dropsExtended dropsLevel dropsId dropsEcu body item passed itemOf payload isVerbose isControl controlType networkType countOf isNetwork isBig verbose listOf control plain bytes fail storage marked find firstOf standsAt stored owned storedOf times numeric
 trace = (refl, refl, refl, refl)
 
 -- it gives way after one entry; after two, though nothing is left to read; after one, though the table is full; and after none
@@ -66,7 +67,7 @@ pub gives-way :
     × (outcome [] 2 (first30 ++ last15) fresh (replicate 12 9) ≡ left 29 2 End.Paused (item24 ++ hickup25 ++ replicate 4 9))
     × (outcome [] 1 (first30 ++ last15) fresh (replicate 4 9) ≡ left 24 1 End.Paused item24)
     × (outcome [] 0 (first30 ++ last15) fresh (replicate 12 9) ≡ left 0 0 End.Paused (replicate 12 9))
-unfolding call judged checked ahead run over asked filterOf fields wanted counts field tagNext ending message routed choose headers _>>=_ here standard number fixed having asking numberOf flagged maybeId maybeNumber identified text endedText textOf endedOf validUpTo upTo sequence among formed ret refuse headerOf endianOf allHeaders overallLength headerTypeByte finished maybeExtended havingFrom seen headersOf filteredOut dropsExtended dropsLevel dropsId dropsEcu body item passed itemOf payload isVerbose isControl controlType networkType countOf isNetwork isBig verbose listOf control plain bytes fail storage marked find firstOf standsAt stored owned storedOf times numeric
+unfolding call judged checked ahead run over asked filterOf fields wanted counts field tagNext ending confinedMessage confinedBody confined inside insideOf routed choose headers _>>=_ here standard number fixed having asking numberOf flagged maybeId maybeNumber identified text endedText textOf endedOf validUpTo upTo sequence among formed ret refuse headerOf endianOf allHeaders overallLength headerTypeByte finished maybeExtended havingFrom seen headersOf filteredOut dropsExtended dropsLevel dropsId dropsEcu body item passed itemOf payload isVerbose isControl controlType networkType countOf isNetwork isBig verbose listOf control plain bytes fail storage marked find firstOf standsAt stored owned storedOf times numeric
 gives-way = (refl, refl, refl, refl)
 
 -- ---- a is what an index leaves, as its contract has it

@@ -26,9 +26,14 @@ use lib.Seq.{drop-append-le, drop-drop}
 use lib.Dec.{ltb}
 use borrow.Author.Tests.{le-ltb, ltb-true, ltb-false}
 use Rattle.wire.specs.Answer.Ans.{done}
+use Rattle.mark.specs.First.{pattern, find}
+use Rattle.mark.specs.declared.Found.{Found}
+use Rattle.headertype.specs.HeaderType.{overallLength}
+use Rattle.headertype.specs.declared.StandardHeader.{StandardHeader}
+use Rattle.headers.specs.Standard.{standard}
 use Rattle.table.specs.Over.{over}
 use Rattle.table.proofs.Laws.{over-none, over-length, over-before, over-behind}
-use Rattle.walk.specs.Walk.{Entry, Take, Ends, Waits, Out, stop, after, turn, run, walk}
+use Rattle.walk.specs.Walk.{Entry, Wait, Take, Ends, Waits, Out, stop, after, turn, run, walk}
 use Rattle.walk.specs.Walk as walking
 use Rattle.walk.specs.Table.{flat, finish}
 use Rattle.walk.proofs.Laws.{walked, adds-up, counts, bounds, enough, waits-at}
@@ -39,9 +44,10 @@ use Rattle.filter.specs.Filter.{filterOf}
 use Rattle.filter.specs.declared.Filter.{Filter}
 use Rattle.filter.specs.declared.FilterAns.{FilterAns}
 use Rattle.step.specs.Step.{asked}
-use Rattle.step.proofs.Fair.{fair, patient, worth-an-entry}
+use Rattle.step.proofs.Fair.{fair, patient}
+use Rattle.step.proofs.Past as declared
+use Rattle.step.proofs.Past.{worth-an-entry, at-least-one}
 use Rattle.worth.specs.Opening.{Opening, opening}
-use Rattle.worth.specs.Need.{ByLength}
 use Rattle.index.specs.Index.{limit, Form, Sound, numberOf, Refuses, Outcome, refused, shown, laid, endOf, walkOf, ahead, checked, call}
 use Rattle.index.specs.Calls.{unlimited, whole, adding, next, over-trace, calls, joined, unless-paused, repeated, Above, total, WaitOver}
 use Rattle.index.specs.declared.State.{State}
@@ -428,13 +434,36 @@ module _ {A : Type 0} (form : Form A) (sound : Sound form) (f : List ℕ) where
           length-append (before .entries) (turn (Take k len i) (suc r′) (before .at) go .entries),
         ))
 
-  -- where the call waits with need v and the headers that stand there are read, of a message that ends by its length: exactly v bytes more, of any value
+  -- a call that waits: so the rule said of the bytes from the new resume position on
+  waits-there : (n : ℕ) (s : List ℕ) (st : State) (T : List A) (v : ℕ) → call form f n s st T .answer .end ≡ End.Waits v
+      → (filter : Filter) × (asked f filter (drop (call form f n s st T .answer .state .at - st .at) s) ≡ Wait v)
+  waits-there n s st T v w = by (came n s st T)
+    where
+      by : Came n s st T → (filter : Filter) × (asked f filter (drop (call form f n s st T .answer .state .at - st .at) s) ≡ Wait v)
+      by (no e a q) = absurd (subst Refuses (sym (ap (λ (o : Outcome A). o .answer .end) (q n s)) ∙ w) a)
+      by (long m q) = absurd (omega (arith, ap numberOf (sym (ap (λ (o : Outcome A). o .answer .end) (q n)) ∙ w)))
+      by (yes filter h m _ goes) =
+          let is : call form f n s st T ≡ laid form T (st .used) (out form sound f filter n s st T) = goes n ∙ ahead-so form sound f filter n s st T in
+          let o = out form sound f filter n s st T in
+          let at : call form f n s st T .answer .state .at ≡ o .at = ap (λ (x : Outcome A). x .answer .state .at) is in
+          let ends : o .ends ≡ Ends.Waits v = waiting (o .ends) v (sym (ap (λ (x : Outcome A). x .answer .end) is) ∙ w) in
+          (filter, rw at (waits-at (asked f filter) v (walked (asked f filter) n (form .holds (length T) - st .used) (st .at) s) ends))
+
+  -- NO WAIT PAST A DECLARED END: where the call waits with need v behind a standard header that is accepted, it is for declared bytes, and for one at least
+  pub never-past : (n : ℕ) (s : List ℕ) (st : State) (T : List A) (v k : ℕ) (h : StandardHeader) (b : ℕ) → call form f n s st T .answer .end ≡ End.Waits v
+      → find pattern (drop (call form f n s st T .answer .state .at - st .at) s) 0 ≡ Found.At k
+      → standard (drop (call form f n s st T .answer .state .at - st .at) s) (k + 16) ≡ done h b
+      → (1 ≤ v) × (length (drop (call form f n s st T .answer .state .at - st .at) s) + v ≤ k + 16 + overallLength h)
+  never-past n s st T v k h b w found accepted =
+      let (filter, e) = waits-there n s st T v w in
+      (at-least-one f filter _ k h b v found accepted e, declared.never-past f filter _ k h b v found accepted e)
+
+  -- where the call waits with need v and the headers that stand there are read, verbose or not: exactly v bytes more, of any value
   pub worth-the-wait : (n : ℕ) (s t : List ℕ) (st : State) (T : List A) (v : ℕ) (l : Opening) (behind : ℕ) → st .at + length (s ++ t) ≤ limit
       → call form f n s st T .answer .end ≡ End.Waits v
       → opening true (drop (call form f n s st T .answer .state .at - st .at) s) 0 ≡ done l behind
-      → ((filter : Filter) → filterOf f ≡ FilterAns.Good filter → ByLength f filter (drop (call form f n s st T .answer .state .at - st .at) s) l)
       → length t ≡ v → WaitOver (form .holds (length T)) (call form f n s st T) (call form f n (s ++ t) st T)
-  worth-the-wait n s t st T v l behind g w read c enough = by (came n s st T) (filterOf f) refl
+  worth-the-wait n s t st T v l behind g w read enough = by (came n s st T) (filterOf f) refl
     where
       by : Came n s st T → (x : FilterAns) → filterOf f ≡ x → WaitOver (form .holds (length T)) (call form f n s st T) (call form f n (s ++ t) st T)
       by (no e a q) x z = absurd (subst Refuses (sym (ap (λ (o : Outcome A). o .answer .end) (q n s)) ∙ w) a)
@@ -449,6 +478,6 @@ module _ {A : Type 0} (form : Form A) (sound : Sound form) (f : List ℕ) where
           let ends : o .ends ≡ Ends.Waits v = waiting (o .ends) v (sym (ap (λ (x : Outcome A). x .answer .end) (is s m)) ∙ w) in
           let left = drop (o .at - st .at) s in
           let waits = waits-at (asked f filter) v (walked (asked f filter) n (form .holds (length T) - st .used) (st .at) s) ends in
-          let (k, len, i, e) = worth-an-entry f filter left v l behind waits (rw at at read) (rw at at (c filter z)) t enough in
+          let (k, len, i, e) = worth-an-entry f filter left v l behind waits (rw at at read) t enough in
           let (m′, p) = walks.goes-past (asked f filter) (fair f filter) n (form .holds (length T)) (st .at) (st .used) s t v ends e in
           past n s t st T filter h g is k len i _ _ refl p

@@ -37,7 +37,7 @@ pub struct Indexed {
     pub end: End,
 }
 
-// What the message rule says of the bytes from `at` on.
+// What the confined reading says of the bytes from `at` on.
 fn ask_at(s: &[u8], at: usize, f: &[u8], filter: Filter) -> Heard
     requires { ⌜ at ≤ length (now s) ⌝ }
     ensures { λ r. ⌜ stepOf r ≡ asked (now (f .entry)) filter (drop at (now (s .entry))) ⌝ }

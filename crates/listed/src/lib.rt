@@ -76,7 +76,11 @@ fn kind(k: u64) {
         io::write_all(STDOUT_FILENO, b"hickup\n");
         return;
     }
-    io::write_all(STDOUT_FILENO, b"unrecoverable\n");
+    if k == 3 {
+        io::write_all(STDOUT_FILENO, b"unrecoverable\n");
+        return;
+    }
+    io::write_all(STDOUT_FILENO, b"overrun\n");
 }
 
 // The line of one entry.

@@ -6,6 +6,7 @@
 // ascii-mode.dlt         a recording sent as text, each 0A turned into 0D 0A: bytes skipped, a hickup, and it waits in the middle
 // junk-between.dlt       the recording with 1 to 59 random bytes after every third message: they are skipped
 // len-below-headers.dlt  the recording with a message whose declared length is below its headers': a hickup, and the next is found again
+// strlen-big.dlt         the recording with a string whose size runs past its message: an overrun, and the next stands at the declared end
 // over.dlt               one byte over the limit
 // missing.dlt            a file that isn't there
 //
@@ -50,6 +51,7 @@ fn main() {
     both(b"ascii-mode.dlt");
     both(b"junk-between.dlt");
     both(b"len-below-headers.dlt");
+    both(b"strlen-big.dlt");
     both(b"over.dlt");
     both(b"missing.dlt");
 }

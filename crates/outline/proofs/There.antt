@@ -217,15 +217,15 @@ stored-there s i h =
     (rw eight (step _ _ s _ (number-there s (i + 8) false 4 (omega arith))
     (rw twelve (step _ _ s _ (id-there s (i + 12) (omega arith)) (ret-is _ s _ ∙ ap (λ (n : ℕ). done (storedAt s i) n) sixteen))))))
 
+pub storage-there : (s : List ℕ) (i : ℕ) → find pattern s 0 ≡ Found.At i → i + 16 ≤ length s → storage s 0 ≡ done (storedAt s i) (i + 16)
+unfolding storage marked
+storage-there s i found h = rw (found, le-leb 16 (length s - 0) (omega arith), sub-zero) (stored-there s i h)
+
 -- ---- the whole
 module _ (f : List ℕ) (filter : Filter) (s : List ℕ) (i : ℕ) (found : find pattern s 0 ≡ Found.At i) (there : i + 42 ≤ length s) where
-  storage-there : storage s 0 ≡ done (storedAt s i) (i + 16)
-  unfolding storage marked
-  storage-there = rw (found, le-leb 16 (length s - 0) (omega arith), sub-zero) (stored-there s i (omega arith))
-
   behind-storage : routed f filter true s 0 ≡ headers f filter (storedAt s i) s (i + 16)
   unfolding routed choose
-  behind-storage = then-done storage _ s 0 storage-there
+  behind-storage = then-done storage _ s 0 (storage-there s i found (omega arith))
 
   pub routed-short : lengthAt s (i + 16) < allHeaders (typeAt s (i + 16)) → routed f filter true s 0 ≡ hickup 1
   routed-short h = behind-storage ∙ headers-short f filter (storedAt s i) s (i + 16) (omega arith) h

@@ -30,13 +30,20 @@ parsed-back ParsedAns.Broken = refl
 pub parsed-determined : {r r′ : ParsedAns} {x : Ans ParsedMessage} → parsedAns r ≡ x → parsedAns r′ ≡ x → r ≡ r′
 parsed-determined = whole-answer parsedAns (λ a b. ParsedAns.Done (record { v = a; next = b })) ParsedAns.Need ParsedAns.Hickup ParsedAns.Broken parsed-back
 
-abbrev toMessage : Answer → MessageAns
-toMessage badFilter = MessageAns.BadFilter
-toMessage retiredTag = MessageAns.RetiredTag
-toMessage (answered (done a b)) = MessageAns.Done (record { v = a; next = b })
-toMessage (answered (need n)) = MessageAns.Need n
-toMessage (answered (hickup r)) = MessageAns.Hickup r
-toMessage (answered broken) = MessageAns.Broken
+-- an enum with a case for each answer, told by the answer; so that two of its values with one answer are one
+abbrev pub judgedBack : {A R : Type 0} → R → R → (A → ℕ → R) → (ℕ → R) → (ℕ → R) → R → Answer A → R
+judgedBack bad old d n h b badFilter = bad
+judgedBack bad old d n h b retiredTag = old
+judgedBack bad old d n h b (answered (done a e)) = d a e
+judgedBack bad old d n h b (answered (need m)) = n m
+judgedBack bad old d n h b (answered (hickup r)) = h r
+judgedBack bad old d n h b (answered broken) = b
+
+pub judged-once : {A R : Type 0} (ans : R → Answer A) (back : Answer A → R) → ((r : R) → back (ans r) ≡ r) → {r r′ : R} {x : Answer A} → ans r ≡ x → ans r′ ≡ x → r ≡ r′
+judged-once ans back again {r} {r′} e f = sym (again r) ∙ ap back (e ∙ sym f) ∙ again r′
+
+abbrev toMessage : Answer ParsedMessage → MessageAns
+toMessage = judgedBack MessageAns.BadFilter MessageAns.RetiredTag (λ a b. MessageAns.Done (record { v = a; next = b })) MessageAns.Need MessageAns.Hickup MessageAns.Broken
 
 message-back : (r : MessageAns) → toMessage (messageAns r) ≡ r
 message-back MessageAns.BadFilter = refl
@@ -46,5 +53,5 @@ message-back (MessageAns.Need n) = refl
 message-back (MessageAns.Hickup n) = refl
 message-back MessageAns.Broken = refl
 
-pub message-determined : {r r′ : MessageAns} {x : Answer} → messageAns r ≡ x → messageAns r′ ≡ x → r ≡ r′
-message-determined {r} {r′} e f = sym (message-back r) ∙ ap toMessage (e ∙ sym f) ∙ message-back r′
+pub message-determined : {r r′ : MessageAns} {x : Answer ParsedMessage} → messageAns r ≡ x → messageAns r′ ≡ x → r ≡ r′
+message-determined = judged-once messageAns toMessage message-back

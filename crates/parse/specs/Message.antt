@@ -110,28 +110,28 @@ parsedAns (ParsedAns.Need n) = need n
 parsedAns (ParsedAns.Hickup r) = hickup r
 parsedAns ParsedAns.Broken = broken
 
--- step 1 comes before anything else: BadFilter, RetiredTag, or what the message rule answers
-pub data Answer : Type 0 where
-  badFilter : Answer
-  retiredTag : Answer
-  answered : Ans ParsedMessage → Answer
+-- step 1 comes before anything else: BadFilter, RetiredTag, or what a rule answers with a good filter
+pub data Answer (A : Type 0) : Type 0 where
+  badFilter : Answer A
+  retiredTag : Answer A
+  answered : Ans A → Answer A
 
-unfoldable pub judged : List ℕ → Bool → List ℕ → FilterAns → Answer
-judged f stored s (FilterAns.Good filter) = Answer.answered (message f filter stored s 0)
-judged f stored s FilterAns.Retired = Answer.retiredTag
-judged f stored s FilterAns.Bad = Answer.badFilter
+unfoldable pub judged : {A : Type 0} → (Filter → Ans A) → FilterAns → Answer A
+judged rule (FilterAns.Good filter) = Answer.answered (rule filter)
+judged rule FilterAns.Retired = Answer.retiredTag
+judged rule FilterAns.Bad = Answer.badFilter
 
-unfoldable pub messageOf : List ℕ → Bool → List ℕ → Answer
-messageOf f stored s = judged f stored s (filterOf f)
+unfoldable pub messageOf : List ℕ → Bool → List ℕ → Answer ParsedMessage
+messageOf f stored s = judged (λ filter. message f filter stored s 0) (filterOf f)
 
 -- document 01's number of each answer, and what it carries
-abbrev pub numberedMessage : Answer → Numbered ParsedMessage
-numberedMessage Answer.badFilter = wire.badFilter
-numberedMessage Answer.retiredTag = wire.retiredTag
-numberedMessage (Answer.answered x) = numbered x
+abbrev pub numberedAnswer : {A : Type 0} → Answer A → Numbered A
+numberedAnswer Answer.badFilter = wire.badFilter
+numberedAnswer Answer.retiredTag = wire.retiredTag
+numberedAnswer (Answer.answered x) = numbered x
 
 -- the answer that each case of the enum stands for
-abbrev pub messageAns : MessageAns → Answer
+abbrev pub messageAns : MessageAns → Answer ParsedMessage
 messageAns MessageAns.BadFilter = Answer.badFilter
 messageAns MessageAns.RetiredTag = Answer.retiredTag
 messageAns (MessageAns.Done g) = Answer.answered (done (g .v) (g .next))

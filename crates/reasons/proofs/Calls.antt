@@ -17,22 +17,23 @@ use mathlib.Core.List.{List, [], _∷_, _++_}
 use lib.ListN.{replicate}
 use Rattle.wire.specs.Answer.{Ans, Parser, Carried, Numbered, numbered}
 use Rattle.wire.specs.Answer.Ans.{done, need, hickup, broken}
-use Rattle.filter.specs.Filter.{filterOf}
+use Rattle.filter.specs.Filter.{filterOf, fields, wanted, counts, field, tagNext, ending}
+use Rattle.filter.specs.declared.Filter.{Filter}
 use Rattle.filter.specs.declared.FilterAns.{FilterAns}
-use Rattle.parse.specs.Message.{judged, messageOf, numberedMessage}
+use Rattle.parse.specs.Message.{message, judged, messageOf, numberedAnswer, routed, headers, finished, maybeExtended, havingFrom, seen, headersOf, body, item, passed, itemOf, isBig}
 use Rattle.parse.specs.declared.ParsedMessage.{ParsedMessage}
-use Rattle.wire.specs.Parser.{_>>=_, ret, here, refuse, choose, asking, having, fixed}
-use Rattle.wire.specs.Number.{number, numberOf}
+use Rattle.wire.specs.Parser.{_>>=_, ret, here, refuse, choose, asking, having, fixed, fail, times}
+use Rattle.wire.specs.Number.{number, numberOf, numeric}
 use Rattle.wire.specs.Run.{bytes}
 use Rattle.strings.specs.Utf8.{validUpTo, upTo, sequence, among, formed}
 use Rattle.headertype.specs.Bits.{oneIf}
-use Rattle.headertype.specs.HeaderType.{allHeaders}
-use Rattle.headers.specs.Standard.{maybeId, maybeNumber, flagged, standard}
-use Rattle.headers.specs.Extended.{extended}
+use Rattle.headertype.specs.HeaderType.{allHeaders, overallLength, headerTypeByte}
+use Rattle.headers.specs.Standard.{maybeId, maybeNumber, flagged, standard, headerOf, endianOf}
+use Rattle.headers.specs.Extended.{extended, named, extendedOf}
 use Rattle.storage.specs.Consume.{tagged, skip, from, whole, consume}
 use Rattle.dlt.specs.TypeInfoWord.{typeInfoOf, kindBy, codingOf, unsignedOf, typeLengthOf, floatWidthOf}
-use Rattle.arguments.specs.Argument.{argument, typeInfo, decoded}
-use Rattle.cursor.specs.Cursor.{turn}
+use Rattle.arguments.specs.Argument.{argument, typeInfo, decoded, kinded, boolean}
+use Rattle.cursor.specs.Cursor.{turn, arguments}
 use Rattle.cursor.specs.Raw.{firstRaw}
 use Rattle.cursor.specs.declared.Cursor.{Cursor}
 use Rattle.cursor.specs.declared.RawCursor.{RawCursor}
@@ -40,10 +41,18 @@ use Rattle.signals.specs.Signal as signalling
 use Rattle.signals.specs.Signal.{utf8, fixedWidth, content, inData, signal}
 use Rattle.signals.specs.Signals.{signals, constructed, signalTurn}
 use Rattle.signals.specs.declared.SignalCursor.{SignalCursor}
-use Rattle.facts.proofs.Vectors.{Sum, ofCarried, sum, hickups, sums, others}
-use Rattle.reasons.specs.Reasons.{isOneOf, Comes, Exactly, messageCall, cursorCall, rawCall, skipCall, consumeCall, constructCall, signalCall, messageReasons, argumentReasons, skipReasons, consumeReasons, signalReasons}
+use Rattle.facts.proofs.Vectors.{Sum, ofCarried, sum, hickups, v2, sums, others}
+use Rattle.strings.specs.Text.{identified, text, endedText, textOf, endedOf}
+use Rattle.messageinfo.specs.MessageInfo.{knownLevel, logLevelOf, messageTypeBy}
+use Rattle.filtering.specs.FilteredOut.{filteredOut, dropsExtended, dropsLevel, dropsId, dropsEcu}
+use Rattle.payload.specs.Payload.{payload, isVerbose, isControl, controlType, networkType, countOf, isNetwork, verbose, listOf, control, plain}
+use Rattle.storage.specs.Storage.{storage, marked, stored, owned}
+use Rattle.mark.specs.First.{find, firstOf, standsAt}
+use Rattle.names.specs.Names.{maybeName}
+use Rattle.confined.specs.Confined.{confined, insideOf, inside, confinedBody, confinedMessage, confinedMessageOf}
+use Rattle.reasons.specs.Reasons.{isOneOf, Comes, Exactly, messageCall, confinedCall, cursorCall, rawCall, skipCall, consumeCall, constructCall, signalCall, messageReasons, argumentReasons, skipReasons, consumeReasons, signalReasons}
 use Rattle.reasons.proofs.Gives.{Of, Gives}
-use Rattle.reasons.proofs.Rules.{extended-gives, message-gives, turn-gives, raw-gives, skip-gives, consume-gives, construct-gives, signal-turn-gives}
+use Rattle.reasons.proofs.Rules.{extended-gives, message-gives, confined-message-gives, turn-gives, raw-gives, skip-gives, consume-gives, construct-gives, signal-turn-gives}
 
 -- what is carried, told apart
 abbrev sort : {A : Type 0} → Carried A → ℕ
@@ -63,11 +72,12 @@ of-rule : {A : Type 0} {p : Parser A} {all : List ℕ} → Gives all p → (s : 
 of-rule {A} {p} {all} h s at r e = of-answer all (p s at) (h .gives s at) r e
 
 -- ---- one message
-judged-only : (f : List ℕ) (t : Bool) (s : List ℕ) (v : FilterAns) (r : ℕ) → numberedMessage (judged f t s v) .carries ≡ Carried.reason r → isOneOf r messageReasons ≡ true
+judged-only : {A : Type 0} (rule : Filter → Parser A) → ((filter : Filter) → Gives messageReasons (rule filter)) → (s : List ℕ) (v : FilterAns) (r : ℕ)
+    → numberedAnswer (judged (λ filter. rule filter s 0) v) .carries ≡ Carried.reason r → isOneOf r messageReasons ≡ true
 unfolding judged
-judged-only f t s (FilterAns.Good filter) r e = of-rule (message-gives messageReasons refl refl f filter t) s 0 r e
-judged-only f t s FilterAns.Retired r e = absurd (omega (arith, ap sort e))
-judged-only f t s FilterAns.Bad r e = absurd (omega (arith, ap sort e))
+judged-only rule h s (FilterAns.Good filter) r e = of-rule (h filter) s 0 r e
+judged-only rule h s FilterAns.Retired r e = absurd (omega (arith, ap sort e))
+judged-only rule h s FilterAns.Bad r e = absurd (omega (arith, ap sort e))
 
 -- what a sum says of a reason, the message's answer says
 of-sum : (c : Carried ParsedMessage) (s : List ℕ) (r : ℕ) → ofCarried c s ≡ Carried.reason r → c ≡ Carried.reason r
@@ -82,8 +92,20 @@ summed s r e = (([], false, s), of-sum _ s r (ap (λ (x : Numbered Sum). x .carr
 pub message-reasons : Exactly messageCall messageReasons
 unfolding messageOf
 message-reasons = record {
-  only = λ i r e. judged-only (i .0) (i .1) (i .2) (filterOf (i .0)) r e;
+  only = λ i r e. judged-only (λ filter. message (i .0) filter (i .1)) (λ filter. message-gives messageReasons refl refl (i .0) filter (i .1)) (i .2) (filterOf (i .0)) r e;
   each = (summed _ 1 (sums .3), (summed _ 2 (others .5), tt));
+}
+
+-- the confined reading of P4; and of the same word that is no type, whole within the declared bytes
+confined-comes : Comes confinedCall 1 × Comes confinedCall 2
+unfolding confinedMessageOf confinedMessage confinedBody confined inside insideOf judged filterOf fields wanted counts field tagNext ending routed choose headers _>>=_ here standard number fixed having asking numberOf flagged maybeId maybeNumber identified text endedText textOf endedOf validUpTo upTo sequence among formed ret refuse headerOf endianOf allHeaders overallLength headerTypeByte finished maybeExtended extended named extendedOf knownLevel logLevelOf messageTypeBy havingFrom seen headersOf filteredOut dropsExtended dropsLevel dropsId dropsEcu body item passed itemOf payload isVerbose isControl controlType networkType countOf isNetwork isBig verbose listOf control plain bytes fail storage marked find firstOf standsAt stored owned arguments times turn argument typeInfo decoded kinded boolean maybeName typeInfoOf kindBy codingOf numeric
+confined-comes = ((([], false, 0x20 ∷ 0x07 ∷ 0x00 ∷ 0x03 ∷ []), refl), (([], false, v2), refl))
+
+pub confined-reasons : Exactly confinedCall messageReasons
+unfolding confinedMessageOf
+confined-reasons = record {
+  only = λ i r e. judged-only (λ filter. confinedMessage (i .0) filter (i .1)) (λ filter. confined-message-gives messageReasons refl refl (i .0) filter (i .1)) (i .2) (filterOf (i .0)) r e;
+  each = (confined-comes .0, (confined-comes .1, tt));
 }
 
 -- ---- arguments one by one: a word with two types at once

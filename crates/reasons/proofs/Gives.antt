@@ -1,10 +1,10 @@
 -- A rule gives no reasons but these: a law for each way to make a rule of others.
 -- Assumes nothing.
-use Prim.Native.Nat.{ℕ, zero, suc, _-_}
+use Prim.Native.Nat.{ℕ, zero, suc, _+_, _-_}
 use mathlib.Core.Path.{_≡_}
 use mathlib.Core.Bool.{Bool, true, false}
 use mathlib.Core.List.{List}
-use lib.ListN.{length}
+use lib.ListN.{length, take}
 use lib.Dec.{leb}
 use Rattle.wire.specs.Answer.{Ans, Parser}
 use Rattle.wire.specs.Answer.Ans.{done, need, hickup, broken}
@@ -12,6 +12,7 @@ use Rattle.wire.specs.Parser.{pick, follow, ret, here, refuse, fail, choose, as
 use Rattle.wire.specs.Number.{number, numeric}
 use Rattle.wire.specs.Run.{bytes}
 use Rattle.strings.specs.Text.{text, identified}
+use Rattle.confined.specs.Confined.{shut, confined}
 use Rattle.reasons.specs.Reasons.{isOneOf}
 
 -- an answer that is a Hickup has one of these reasons
@@ -68,6 +69,17 @@ module _ (all : List ℕ) where
   pub having-gives : {A : Type 0} (n : ℕ) (p : Parser A) → Gives all p → Gives all (having n p)
   unfolding having
   having-gives n p h = asking-gives n _ p h
+
+  -- a rule that is shown a part of the bytes alone
+  shut-gives : {A : Type 0} (over : A) (end : ℕ) (x : Ans A) → Of all x → Of all (shut over end x)
+  shut-gives over end (done a b) h = tt
+  shut-gives over end (need n) h = tt
+  shut-gives over end (hickup r) h = h
+  shut-gives over end broken h = tt
+
+  pub confined-gives : {A : Type 0} (n : ℕ) (over : A) (p : Parser A) → Gives all p → Gives all (confined n over p)
+  unfolding confined
+  confined-gives n over p h = having-gives n _ (record { gives = λ s at. shut-gives over (at + n) (p (take (at + n) s) at) (h .gives (take (at + n) s) at) })
 
   fixed-gives : {A : Type 0} (n : ℕ) (f : List ℕ → ℕ → A) → Gives all (fixed n f)
   unfolding fixed

@@ -46,8 +46,9 @@ use Rattle.payload.specs.Payload as pay
 use Rattle.payload.specs.Payload.{payload}
 use Rattle.parse.specs.Message.{havingFrom, seen, maybeExtended, finished, headers, routed, passed, item, body, message}
 use Rattle.parse.specs.declared.Headers.{Headers}
+use Rattle.confined.specs.Confined.{inside, confinedBody, confinedMessage}
 use Rattle.reasons.specs.Reasons.{isOneOf}
-use Rattle.reasons.proofs.Gives.{Of, Gives, ret-gives, refuse-gives, then-gives, times-gives, numeric-gives, bytes-gives, having-gives, giving}
+use Rattle.reasons.proofs.Gives.{Of, Gives, ret-gives, refuse-gives, then-gives, times-gives, numeric-gives, bytes-gives, having-gives, confined-gives, giving}
 
 -- ---- none
 module _ (all : List ℕ) where
@@ -251,6 +252,12 @@ module _ (all : List ℕ) (two : isOneOf 2 all ≡ true) where
 pub message-gives : (all : List ℕ) → isOneOf 1 all ≡ true → isOneOf 2 all ≡ true → (f : List ℕ) (filter : Filter) (t : Bool) → Gives all (message f filter t)
 unfolding message
 message-gives all one two f filter t = then-gives all (routed f filter t) body (routed-gives all one f filter t) (body-gives all two)
+
+pub confined-message-gives : (all : List ℕ) → isOneOf 1 all ≡ true → isOneOf 2 all ≡ true → (f : List ℕ) (filter : Filter) (t : Bool) → Gives all (confinedMessage f filter t)
+unfolding confinedMessage confinedBody inside
+confined-message-gives all one two f filter t =
+    then-gives all (routed f filter t) _ (routed-gives all one f filter t)
+    (λ h. confined-gives all _ _ _ (then-gives all (body h) _ (body-gives all two h) (λ m. ret-gives all _)))
 
 -- ---- 4: the pattern is missing
 module _ (all : List ℕ) (four : isOneOf 4 all ≡ true) where

@@ -17,8 +17,10 @@ use Rattle.cursor.specs.declared.RawTurn.{RawTurn}
 use Rattle.signals.specs.Signals.{constructed, signalTurn}
 use Rattle.signals.specs.declared.SignalCursor.{SignalCursor}
 use Rattle.signals.specs.declared.SignalTurn.{SignalTurn}
-use Rattle.parse.specs.Message.{messageOf, numberedMessage}
+use Rattle.parse.specs.Message.{messageOf, numberedAnswer}
 use Rattle.parse.specs.declared.ParsedMessage.{ParsedMessage}
+use Rattle.confined.specs.Confined.{confinedMessageOf}
+use Rattle.confined.specs.declared.ConfinedMessage.{ConfinedMessage}
 
 abbrev pub isOneOf : ℕ → List ℕ → Bool
 isOneOf r [] = false
@@ -40,7 +42,11 @@ pub record Exactly {I A : Type 0} (call : I → Numbered A) (reasons : List ℕ)
 -- ---- the calls that can answer Hickup, by their contracts, each over all that it is given
 -- `dlt_message`: the filter's bytes, storage mode or not, the bytes
 abbrev pub messageCall : List ℕ × Bool × List ℕ → Numbered ParsedMessage
-messageCall i = numberedMessage (messageOf (i .0) (i .1) (i .2))
+messageCall i = numberedAnswer (messageOf (i .0) (i .1) (i .2))
+
+-- `confined_message`: the same
+abbrev pub confinedCall : List ℕ × Bool × List ℕ → Numbered ConfinedMessage
+confinedCall i = numberedAnswer (confinedMessageOf (i .0) (i .1) (i .2))
 
 -- `Cursor::next` and `RawCursor::next`: the cursor, the bytes
 abbrev pub cursorCall : Cursor × List ℕ → Numbered Turn

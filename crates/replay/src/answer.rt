@@ -11,6 +11,7 @@ use crate::indexed;
 use crate::len;
 use crate::mi;
 use crate::msg;
+use crate::msg::Asked;
 use crate::retire;
 use crate::skip;
 use crate::ti;
@@ -65,7 +66,10 @@ fn by_kind(line: &[u8], body: &mut [u8], words: &mut [u32], out: &mut Out, at: u
     let kind = fields::word_at(line, 0);
     let end = kind.end;
     if fields::is(line, kind, b"msg") {
-        return msg::answer(line, end, false, body, out, at);
+        return msg::answer(line, end, Asked::Message, body, out, at);
+    }
+    if fields::is(line, kind, b"conf") {
+        return msg::answer(line, end, Asked::Confined, body, out, at);
     }
     if fields::is(line, kind, b"args") {
         return args::answer(line, end, false, body, words, out, at);
@@ -91,7 +95,7 @@ fn with_reasons(
     let kind = fields::after(line, why_end);
     let end = kind.end;
     if fields::is(line, kind, b"msg") {
-        return msg::answer(line, end, true, body, out, at);
+        return msg::answer(line, end, Asked::Reasons, body, out, at);
     }
     if fields::is(line, kind, b"args") {
         return args::answer(line, end, true, body, words, out, at);

@@ -3,6 +3,7 @@ use crate::pattern;
 use crate::writer;
 use crate::writer::Out;
 use cursor::Cursor;
+use cursor::PassAns;
 use cursor::RawCursor;
 use cursor::RawTurn;
 use cursor::RawTurnAns;
@@ -33,6 +34,24 @@ pub fn payload(
             let begun = span(out, at, b'T', trace.at, end);
             every_raw(out, begun, s, trace)
         }
+    }
+}
+
+// Where the payload of a message that ends at `end` ends: a list ends at its last argument.
+pub fn end_of(s: &[u8], p: PayloadContent, end: usize) -> usize {
+    match p {
+        PayloadContent::Verbose(list) => list_end(s, list.at, list.left, list.big, end),
+        PayloadContent::NonVerbose(_, _) => end,
+        PayloadContent::ControlMsg(_, _) => end,
+        PayloadContent::NetworkTrace(trace) => list_end(s, trace.at, trace.left, trace.big, end),
+    }
+}
+
+fn list_end(s: &[u8], at: usize, count: usize, big: bool, end: usize) -> usize {
+    match cursor::pass_arguments(s, at, count, big) {
+        PassAns::Done(last) => last,
+        PassAns::Need(_) => end,
+        PassAns::Hickup(_) => end,
     }
 }
 

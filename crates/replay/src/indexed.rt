@@ -260,6 +260,7 @@ fn kind(out: &mut Out, at: usize, kind: u64) -> usize {
         0 => writer::literal(out, at, b"item)"),
         1 => writer::literal(out, at, b"filtered)"),
         2 => writer::literal(out, at, b"hickup)"),
-        _ => writer::literal(out, at, b"unrecoverable)"),
+        3 => writer::literal(out, at, b"unrecoverable)"),
+        _ => writer::literal(out, at, b"overrun)"),
     }
 }

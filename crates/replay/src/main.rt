@@ -2,7 +2,7 @@
 // a line, and writes an answer line to each. A line that is no request is answered `bad request`.
 //
 // - lines: reads blocks and finds the lines. The only loop over the input.
-// - answer: the line of one request, by its kind. zts, fwd, skip, consume, len, mi, ti, msg, args, indexed, retire: the kinds. Behind `why` zts, msg and args say
+// - answer: the line of one request, by its kind. zts, fwd, skip, consume, len, mi, ti, msg, conf, args, indexed, retire: the kinds. Behind `why` zts, msg and args say
 //   why each text ended too.
 // - message, contents: a message, its payload and an argument as answers show them; pattern: how numbers become text.
 // - fields, digits: the words of a line, and the numbers and bytes in them.
@@ -14,6 +14,7 @@ ghost use lib.ListN.{length};
 
 mod answer;
 mod args;
+mod conf;
 mod consume;
 mod contents;
 mod digits;

@@ -1,4 +1,5 @@
-// `msg STORAGE FILTER BYTES`: one message, dlt_message; behind `why` with why its texts ended.
+// `msg STORAGE FILTER BYTES`: one message, dlt_message; behind `why` with why its texts ended. `conf STORAGE FILTER BYTES`: the confined reading of it.
+use crate::conf;
 use crate::digits;
 use crate::digits::Flag;
 use crate::fields;
@@ -9,11 +10,18 @@ use parse::GotParsed;
 use parse::MessageAns;
 use parse::ParsedMessage;
 
-// The answer to a request whose kind ends at `kind_end`, with reasons if `why`.
+// Which reading is asked for.
+pub enum Asked {
+    Message,
+    Reasons,
+    Confined,
+}
+
+// The answer to a request whose kind ends at `kind_end`.
 pub fn answer(
     line: &[u8],
     kind_end: usize,
-    why: bool,
+    asked: Asked,
     body: &mut [u8],
     out: &mut Out,
     at: usize,
@@ -29,7 +37,7 @@ pub fn answer(
         return writer::bad_request(out, at);
     }
     let with_storage_header = digits::storage(line, mode);
-    by_mode(body, n, k, with_storage_header, why, out, at)
+    by_mode(body, n, k, with_storage_header, asked, out, at)
 }
 
 // The answer for a message with a storage header, or for one without. Its bytes are the first `n`, its filter's the `k` behind them.
@@ -38,16 +46,31 @@ fn by_mode(
     n: usize,
     k: usize,
     with_storage_header: Flag,
-    why: bool,
+    asked: Asked,
     out: &mut Out,
     at: usize,
 ) -> usize {
     let s = digits::first(body, n);
     let f = digits::behind(body, n, k);
     match with_storage_header {
-        Flag::Yes => shown(s, f, true, why, out, at),
-        Flag::No => shown(s, f, false, why, out, at),
+        Flag::Yes => by_reading(s, f, true, asked, out, at),
+        Flag::No => by_reading(s, f, false, asked, out, at),
         Flag::Bad => writer::bad_request(out, at),
+    }
+}
+
+fn by_reading(
+    s: &[u8],
+    f: &[u8],
+    with_storage_header: bool,
+    asked: Asked,
+    out: &mut Out,
+    at: usize,
+) -> usize {
+    match asked {
+        Asked::Message => shown(s, f, with_storage_header, false, out, at),
+        Asked::Reasons => shown(s, f, with_storage_header, true, out, at),
+        Asked::Confined => conf::shown(s, f, with_storage_header, out, at),
     }
 }
 
@@ -78,9 +101,12 @@ fn parsed(s: &[u8], got: GotParsed, why: bool, out: &mut Out, at: usize) -> usiz
             let used = writer::labelled(out, at, b"0 item used=", end as u64);
             message::message(out, used, s, m, end, why)
         }
-        ParsedMessage::FilteredOut(n) => {
-            let used = writer::labelled(out, at, b"0 filtered used=", end as u64);
-            writer::labelled(out, used, b" plen=", n as u64)
-        }
+        ParsedMessage::FilteredOut(n) => unread(out, at, b"0 filtered used=", end, n),
     }
+}
+
+// A message of whose payload only the length `n` is told.
+pub fn unread(out: &mut Out, at: usize, label: &[u8], end: usize, n: u16) -> usize {
+    let used = writer::labelled(out, at, label, end as u64);
+    writer::labelled(out, used, b" plen=", n as u64)
 }

@@ -1,4 +1,4 @@
--- The message rule is fair to the walk: what it decides stays with more bytes, lies within the bytes, and takes at least one. Assumes nothing.
+-- The confined reading is fair to the walk: what it decides stays with more bytes, lies within the bytes, and takes at least one. Assumes nothing.
 use Prim.Native.Nat.{ℕ, _+_, _≤_, _<_, zero-le}
 use native.Mathlib.Omega.{arith}
 use mathlib.Core.Path.{_≡_, refl, sym, ap, _∙_, subst}
@@ -17,16 +17,15 @@ use Rattle.mark.proofs.Laws.{found-within, find-stable}
 use Rattle.headertype.specs.HeaderType.{overallLength}
 use Rattle.headers.proofs.Inverse.{split}
 use Rattle.filter.specs.declared.Filter.{Filter}
-use Rattle.parse.specs.Message.{routed, body, message}
+use Rattle.parse.specs.Message.{routed}
 use Rattle.parse.specs.declared.Headers.{Headers}
-use Rattle.parse.specs.declared.ParsedMessage.{ParsedMessage}
-use Rattle.facts.proofs.Laws.{routed-law, message-stable, message-honest}
-use Rattle.worth.specs.Opening.{Opening, opening}
-use Rattle.worth.specs.Need.{ByLength, Decided}
-use Rattle.worth.proofs.Worth.{worth, of-step-5}
+use Rattle.facts.proofs.Laws.{routed-law}
+use Rattle.confined.specs.Confined.{confinedBody, confinedMessage}
+use Rattle.confined.specs.declared.ConfinedMessage.{ConfinedMessage}
+use Rattle.confined.proofs.Laws.{confined-stable, confined-honest}
 use Rattle.walk.specs.Walk.{Step, Wait, Take, Fair}
-use Rattle.step.specs.Step.{itemKind, filteredKind, unrecoverableKind, skippedTo, lengthOf, heard, asked}
-use Rattle.step.proofs.Place.{Placed, placed, no-pattern}
+use Rattle.step.specs.Step.{skippedTo, lengthOf, heard, asked}
+use Rattle.step.proofs.Place.{placed, no-pattern}
 
 -- two steps that are one
 same-take : {k k′ l l′ i i′ : ℕ} → _≡_ {A = Step ℕ ℕ} (Take k l i) (Take k′ l′ i′) → (k ≡ k′) × (l ≡ l′)
@@ -36,79 +35,76 @@ no-wait : {X : Type 0} {k l i n : ℕ} → _≡_ {A = Step ℕ ℕ} (Wait n) (Ta
 no-wait e = let z : _≡_ {A = ℕ} 0 1 = cc in absurd (omega arith)
 
 -- an entry is taken only of an answer that is not Incomplete
-decides : (a b : ℕ) (x : Ans ParsedMessage) {k l i : ℕ} → heard a b x ≡ Take k l i → Waits x → ⊥
-decides a b (done (ParsedMessage.Item m) n) e w = w
-decides a b (done (ParsedMessage.FilteredOut m) n) e w = w
+decides : (a b : ℕ) (x : Ans ConfinedMessage) {k l i : ℕ} → heard a b x ≡ Take k l i → Waits x → ⊥
+decides a b (done v n) e w = w
 decides a b (need n) e w = no-wait e
 decides a b (hickup r) e w = w
 decides a b broken e w = w
 
 module _ (f : List ℕ) (filter : Filter) (s : List ℕ) where
   -- a decided answer rests on a pattern, on headers that stay, and stays itself
-  at-pattern : (x : Found) → find pattern s 0 ≡ x → (Waits (message f filter true s 0) → ⊥) → find pattern s 0 ≡ Found.At (skippedTo (find pattern s 0))
+  at-pattern : (x : Found) → find pattern s 0 ≡ x → (Waits (confinedMessage f filter true s 0) → ⊥) → find pattern s 0 ≡ Found.At (skippedTo (find pattern s 0))
   at-pattern (Found.At i) e w = rw e
   at-pattern Found.Nothing e w = absurd (w (no-pattern f filter s e))
 
-  read-again : (t : List ℕ) (x : Ans Headers) → routed f filter true s 0 ≡ x → (Waits (message f filter true s 0) → ⊥) → Kept x (length t) (routed f filter true (s ++ t) 0)
+  read-again : (t : List ℕ) (x : Ans Headers) → routed f filter true s 0 ≡ x → (Waits (confinedMessage f filter true s 0) → ⊥) → Kept x (length t) (routed f filter true (s ++ t) 0)
       → routed f filter true (s ++ t) 0 ≡ x
-  unfolding message
+  unfolding confinedMessage
   read-again t (done h n) e w k = k
-  read-again t (need n) e w k = absurd (w (subst Waits (sym (then-need (routed f filter true) body s 0 e)) tt))
+  read-again t (need n) e w k = absurd (w (subst Waits (sym (then-need (routed f filter true) confinedBody s 0 e)) tt))
   read-again t (hickup r) e w k = k
   read-again t broken e w k = k
 
-  stays : (t : List ℕ) → (Waits (message f filter true s 0) → ⊥) → asked f filter (s ++ t) ≡ asked f filter s
+  pub stays : (t : List ℕ) → (Waits (confinedMessage f filter true s 0) → ⊥) → asked f filter (s ++ t) ≡ asked f filter s
   unfolding asked
   stays t w =
       let p = at-pattern (find pattern s 0) refl w in
       let a : find pattern (s ++ t) 0 ≡ find pattern s 0 = find-stable pattern s t 0 _ (lit< tt) p ∙ sym p in
       let b : routed f filter true (s ++ t) 0 ≡ routed f filter true s 0 =
       read-again t (routed f filter true s 0) refl w (routed-law f filter true .kept s t 0 zero-le) in
-      let c : message f filter true (s ++ t) 0 ≡ message f filter true s 0 = message-stable f filter true s t (λ e. w (of-two (message f filter true s 0) e)) in
+      let c : confinedMessage f filter true (s ++ t) 0 ≡ confinedMessage f filter true s 0 = confined-stable f filter true s t (λ e. w (of-two (confinedMessage f filter true s 0) e)) in
       rw (a, b, c)
 
-  -- item and filtered: every declared byte is there
-  whole : {k l n : ℕ} (m : ParsedMessage) → message f filter true s 0 ≡ done m n
+  -- item, filtered and overrun: every declared byte is there
+  whole : {k l n : ℕ} (m : ConfinedMessage) → confinedMessage f filter true s 0 ≡ done m n
       → (skippedTo (find pattern s 0) ≡ k) × (lengthOf (routed f filter true s 0) ≡ l) → (k + l ≤ length s) × (1 ≤ l)
-  unfolding message
+  unfolding confinedMessage
   whole m q w =
-      let r = split (routed f filter true) body s 0 q in
+      let r = split (routed f filter true) confinedBody s 0 q in
       let p = placed f filter s (r .first) in
       let a : skippedTo (find pattern s 0) ≡ p .place = ap skippedTo (p .found) in
       let b : lengthOf (routed f filter true s 0) ≡ 16 + overallLength (r .value .header) = ap lengthOf (r .first) in
       (omega (arith, p .lies, a, b, w .0, w .1), omega (arith, b, w .1))
 
   -- Hickup and Unrecoverable: the pattern is there
-  bare : {k l : ℕ} → (Waits (message f filter true s 0) → ⊥) → (skippedTo (find pattern s 0) ≡ k) × (4 ≡ l) → (k + l ≤ length s) × (1 ≤ l)
+  bare : {k l : ℕ} → (Waits (confinedMessage f filter true s 0) → ⊥) → (skippedTo (find pattern s 0) ≡ k) × (4 ≡ l) → (k + l ≤ length s) × (1 ≤ l)
   bare w e =
       let p = at-pattern (find pattern s 0) refl w in
       (omega (arith, found-within pattern s 0 _ (lit< tt) p, e .0, e .1), omega (arith, e .1))
 
-  lies : {k l i : ℕ} (x : Ans ParsedMessage) → message f filter true s 0 ≡ x
+  lies : {k l i : ℕ} (x : Ans ConfinedMessage) → confinedMessage f filter true s 0 ≡ x
       → heard (skippedTo (find pattern s 0)) (lengthOf (routed f filter true s 0)) x ≡ Take k l i → (k + l ≤ length s) × (1 ≤ l)
-  lies (done (ParsedMessage.Item m) n) q e = whole (ParsedMessage.Item m) q (same-take e)
-  lies (done (ParsedMessage.FilteredOut m) n) q e = whole (ParsedMessage.FilteredOut m) q (same-take e)
+  lies (done v n) q e = whole v q (same-take e)
   lies (need n) q e = no-wait e
-  lies (hickup r) q e = bare (subst (λ (x : Ans ParsedMessage). Waits x → ⊥) (sym q) (λ w. w)) (same-take e)
-  lies broken q e = bare (subst (λ (x : Ans ParsedMessage). Waits x → ⊥) (sym q) (λ w. w)) (same-take e)
+  lies (hickup r) q e = bare (subst (λ (x : Ans ConfinedMessage). Waits x → ⊥) (sym q) (λ w. w)) (same-take e)
+  lies broken q e = bare (subst (λ (x : Ans ConfinedMessage). Waits x → ⊥) (sym q) (λ w. w)) (same-take e)
 
   decided : {k l i : ℕ} → asked f filter s ≡ Take k l i → (k + l ≤ length s) × (1 ≤ l)
   unfolding asked
-  decided e = lies (message f filter true s 0) refl e
+  decided e = lies (confinedMessage f filter true s 0) refl e
 
   settled : {k l i : ℕ} (t : List ℕ) → asked f filter s ≡ Take k l i → asked f filter (s ++ t) ≡ asked f filter s
   unfolding asked
-  settled t e = stays t (decides _ _ (message f filter true s 0) e)
+  settled t e = stays t (decides _ _ (confinedMessage f filter true s 0) e)
 
   -- the second of document 01's two facts, as the walk hears it
-  waiting : (a b : ℕ) (x : Ans ParsedMessage) {n : ℕ} → heard a b x ≡ Wait n → x ≡ need n
-  waiting a b (done (ParsedMessage.Item m) n) e = no-wait (sym e)
-  waiting a b (done (ParsedMessage.FilteredOut m) n) e = no-wait (sym e)
+  pub waiting : (a b : ℕ) (x : Ans ConfinedMessage) {n : ℕ} → heard a b x ≡ Wait n → x ≡ need n
+  waiting a b (done v n) e = no-wait (sym e)
   waiting a b (need n) e = cc
   waiting a b (hickup r) e = no-wait (sym e)
   waiting a b broken e = no-wait (sym e)
 
-  waits : (x : Ans ParsedMessage) (a b : ℕ) → Waits x → (u : ℕ) × (heard a b x ≡ Wait u)
+  waits : (x : Ans ConfinedMessage) (a b : ℕ) → Waits x → (u : ℕ) × (heard a b x ≡ Wait u)
   waits (done m n) a b w = absurd w
   waits (need n) a b w = (n, refl)
   waits (hickup r) a b w = absurd w
@@ -125,21 +121,5 @@ fair f filter = record {
 pub patient : (f : List ℕ) (filter : Filter) (s t : List ℕ) (n : ℕ) → asked f filter s ≡ Wait n → length t < n → (u : ℕ) × (asked f filter (s ++ t) ≡ Wait u)
 unfolding asked
 patient f filter s t n e few =
-    let more = message f filter true (s ++ t) 0 in
-    waits f filter s more _ _ (of-two more (message-honest f filter true s t n (ap numbered (waiting f filter s _ _ (message f filter true s 0) e)) few))
-
--- what a need is worth to the walk: where it waits and the headers are read of a message that ends by its length, exactly the need in bytes of any value
--- brings an entry
-taken : (a b all : ℕ) (x : Ans ParsedMessage) → Decided all x → (k : ℕ) × (l : ℕ) × (i : ℕ) × (heard a b x ≡ Take k l i)
-taken a b all (done (ParsedMessage.Item m) n) d = (a, b, itemKind, refl)
-taken a b all (done (ParsedMessage.FilteredOut m) n) d = (a, b, filteredKind, refl)
-taken a b all (need n) d = absurd d
-taken a b all (hickup r) d = absurd d
-taken a b all broken d = (a, 4, unrecoverableKind, refl)
-
-pub worth-an-entry : (f : List ℕ) (filter : Filter) (s : List ℕ) (n : ℕ) (l : Opening) (behind : ℕ) → asked f filter s ≡ Wait n → opening true s 0 ≡ done l behind → ByLength f filter s l
-    → (more : List ℕ) → length more ≡ n → (k : ℕ) × (len : ℕ) × (i : ℕ) × (asked f filter (s ++ more) ≡ Take k len i)
-unfolding asked
-worth-an-entry f filter s n l behind e read c more enough =
-    let short = of-step-5 f filter true s n l behind read (waiting f filter s _ _ (message f filter true s 0) e) c in
-    taken _ _ _ (message f filter true (s ++ more) 0) (worth f filter true s n l short c more enough)
+    let more = confinedMessage f filter true (s ++ t) 0 in
+    waits f filter s more _ _ (of-two more (confined-honest f filter true s t n (ap numbered (waiting f filter s _ _ (confinedMessage f filter true s 0) e)) few))

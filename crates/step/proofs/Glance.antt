@@ -1,43 +1,36 @@
--- The lemmas of what the walk hears at a glance, for `search`, and that it is what the message rule says. Assumes nothing.
-use Prim.Native.Nat.{ℕ, zero, suc, _+_, _-_, _*_, _/_, _%_, _≤_, _<_}
+-- The lemmas of what the walk hears at a glance, for `search`, and that it is what the confined reading says. Assumes nothing.
+use Prim.Native.Nat.{ℕ, zero, suc, _+_, _-_, _/_, _%_, _≤_, _<_}
 use native.Mathlib.Omega.{arith}
 use mathlib.Core.Path.{_≡_, refl, sym, ap, _∙_}
 use mathlib.Core.Bool.{Bool, true, false}
 use mathlib.Core.List.{List}
-use lib.ListN.{length, getD}
+use lib.ListN.{length, getD, take}
+use lib.Seq.{length-take-le}
 use lib.Dec.{leb, eqb}
 use borrow.Author.Tests.{leb-true, le-leb, lt-leb, eq-eqb, ne-eqb}
 use Rattle.wire.specs.Answer.{Ans}
 use Rattle.wire.specs.Answer.Ans.{done, need, hickup, broken}
 use Rattle.wire.specs.Parser.{pick, follow, ret, here, fail, choose, _>>=_}
 use Rattle.wire.specs.Number.{numberOf, number}
-use Rattle.wire.specs.Run.{range, bytes, rangeAns}
-use Rattle.wire.specs.declared.Range.{Range}
-use Rattle.wire.specs.declared.RangeAns.{RangeAns}
-use Rattle.wire.specs.declared.GotRange.{GotRange}
-use Rattle.wire.proofs.Step.{told, step, then-done, then-need, then-hickup, fixed-done, ret-is, here-is, fail-is, choose-true, choose-false}
-use Rattle.strings.specs.Text.{identified, textOf}
-use Rattle.mark.specs.First.{pattern, find}
-use Rattle.mark.specs.declared.Found.{Found}
+use Rattle.wire.specs.Run.{bytes}
+use Rattle.wire.proofs.Step.{told, step, then-done, then-need, then-hickup, ret-is}
 use Rattle.headertype.specs.Bits.{flag}
-use Rattle.headertype.specs.HeaderType.{allHeaders, overallLength}
-use Rattle.headertype.specs.declared.OptRange.{OptRange}
+use Rattle.headertype.specs.HeaderType.{allHeaders}
 use Rattle.headertype.specs.declared.Endianness.{Endianness}
 use Rattle.messageinfo.specs.MessageInfo.{messageTypeBy, controlOf}
 use Rattle.headers.specs.Standard.{endianOf, headerOf}
-use Rattle.headers.specs.Extended.{extendedOf, extended, extendedAns}
-use Rattle.headers.specs.declared.ExtendedAns.{ExtendedAns}
-use Rattle.headers.specs.declared.GotExtended.{GotExtended}
-use Rattle.headers.proofs.Inverse.{same-value, no-need}
+use Rattle.headers.specs.Extended.{extendedOf}
 use Rattle.filter.specs.declared.Filter.{Filter}
 use Rattle.filtering.specs.declared.OptExtended.{OptExtended}
 use Rattle.cursor.specs.Cursor.{arguments, passAns}
 use Rattle.cursor.specs.declared.PassAns.{PassAns}
 use Rattle.payload.specs.Payload.{isVerbose, countOf, isNetwork, isControl, controlType, listOf, verbose, control, plain, payload}
 use Rattle.payload.specs.declared.PayloadContent.{PayloadContent}
-use Rattle.parse.specs.Message.{routed, body, message, isBig, headersOf}
+use Rattle.parse.specs.Message.{routed, body, passed, item, itemOf, isBig, headersOf}
 use Rattle.parse.specs.declared.Headers.{Headers}
-use Rattle.outline.specs.There.{extendedPlace, extendedIf, extendedAt, ecuAt, standardAt, headersAt}
+use Rattle.confined.specs.Confined.{shut, overrun, insideOf, inside, confinedBody, confinedMessage}
+use Rattle.confined.proofs.Laws.{cut}
+use Rattle.outline.specs.There.{extendedPlace, extendedIf, extendedAt, standardAt, headersAt}
 use Rattle.outline.specs.Outline.{outlineOf}
 use Rattle.outline.specs.declared.Outline.{Outline}
 use Rattle.outline.specs.declared.OutlineAns.{OutlineAns}
@@ -46,16 +39,15 @@ use Rattle.outline.proofs.Seen.{Seen, seen-of, refused-of, missed-of, seen-rout
 use Rattle.verdict.specs.Drops.{dropsOutline}
 use Rattle.verdict.proofs.Said.{outline-passed, verdict-said}
 use Rattle.walk.specs.Walk.{Step, Wait, Take}
-use Rattle.step.specs.Step.{heard, heardPayload, heardDropped, skippedTo, lengthOf, asked}
+use Rattle.step.specs.Step.{itemKind, filteredKind, hickupKind, unrecoverableKind, overrunKind, heard, asked}
 use Rattle.step.specs.Glance.{heardList, heardRun, heardExtended, heardOutline}
-use Rattle.step.proofs.Reading.{item-heard, dropped-heard}
 
 -- ---- the code's cases
 module _ (k l : ℕ) (big : Bool) (n : ℕ) (s : List ℕ) (at : ℕ) (a : PassAns) (d : passAns a ≡ arguments big n s at) where
   pub list-done : (m : ℕ) → a ≡ PassAns.Done m → Take k l 0 ≡ heardList k l (arguments big n s at)
   list-done m q = ap (heardList k l) (sym (told passAns d q))
 
-  pub list-need : (m : ℕ) → a ≡ PassAns.Need m → Wait m ≡ heardList k l (arguments big n s at)
+  pub list-need : (m : ℕ) → a ≡ PassAns.Need m → Take k l 4 ≡ heardList k l (arguments big n s at)
   list-need m q = ap (heardList k l) (sym (told passAns d q))
 
   pub list-hickup : (m : ℕ) → a ≡ PassAns.Hickup m → Take k 4 2 ≡ heardList k l (arguments big n s at)
@@ -71,7 +63,7 @@ module _ (least n k l : ℕ) where
   run-short h = rw (lt-leb least n h)
 
 module _ (big : Bool) (n k l : ℕ) (s : List ℕ) (at : ℕ) (x : Step ℕ ℕ) where
-  pub info-verbose : getD s (at - 10) 0 / 1 % 2 ≡ 1 → x ≡ heardList k l (arguments big (getD s (at - 9) 0) s at) → x ≡ heardExtended big n k l s at
+  pub info-verbose : getD s (at - 10) 0 / 1 % 2 ≡ 1 → x ≡ heardList k l (arguments big (getD s (at - 9) 0) (take (at + n) s) at) → x ≡ heardExtended big n k l s at
   unfolding heardExtended
   info-verbose h e = rw (eq-eqb _ _ h) e
 
@@ -111,6 +103,38 @@ big-order t = by (flag 2 t)
     by : (b : Bool) → isBig (pick b Endianness.Big Endianness.Little) ≡ b
     by true = refl
     by false = refl
+
+-- a payload as it is heard, of the bytes up to the declared end
+abbrev heardPayload : ℕ → ℕ → Ans PayloadContent → Step ℕ ℕ
+heardPayload k l (done p n) = Take k l itemKind
+heardPayload k l (hickup r) = Take k 4 hickupKind
+heardPayload k l broken = Take k 4 unrecoverableKind
+heardPayload k l (need n) = Take k l overrunKind
+
+-- that is what is heard of the message; and where the filter drops it
+module _ (k l : ℕ) (h : Headers) (s : List ℕ) (at : ℕ) (there : at + h .header .«payload_length» ≤ length s) where
+  abbrev paid : ℕ
+  paid = h .header .«payload_length»
+
+  abbrev part : List ℕ
+  part = take (at + paid) s
+
+  as-item : (x : Ans PayloadContent) → heardPayload k l x ≡ heard k l (shut (overrun paid) (at + paid) (follow (follow x (λ p. ret (itemOf h p)) part) (λ m. ret (insideOf m)) part))
+  unfolding ret itemOf insideOf
+  as-item (done p b) = refl
+  as-item (need b) = refl
+  as-item (hickup r) = refl
+  as-item broken = refl
+
+  item-heard : h .filtered ≡ false → heardPayload k l (payload (isBig (h .header .endianness)) (h .«extended_header») (h .header .«payload_length») (take (at + h .header .«payload_length») s) at) ≡ heard k l (confinedBody h s at)
+  unfolding confinedBody inside body choose item _>>=_ itemOf
+  item-heard q = rw (cut paid (overrun paid) (inside h) s at there, q) (as-item (payload (isBig (h .header .endianness)) (h .«extended_header») paid part at))
+
+  dropped-heard : h .filtered ≡ true → Take k l filteredKind ≡ heard k l (confinedBody h s at)
+  unfolding confinedBody inside body choose passed _>>=_ ret insideOf
+  dropped-heard q =
+      let w : length part ≡ at + paid = length-take-le (at + paid) s there in
+      rw (cut paid (overrun paid) (inside h) s at there, q, bytes-there part at paid (omega arith))
 
 module _ (k l : ℕ) (s : List ℕ) (at : ℕ) where
   verbose-heard : (big : Bool) (n : ℕ) (network : Bool) → heardPayload k l (verbose big n network s at) ≡ heardList k l (arguments big n s at)
@@ -154,16 +178,20 @@ module _ (k l : ℕ) (s : List ℕ) (at : ℕ) where
     kinds-heard big false true network m = control-heard
     kinds-heard big false false network m = plain-heard big
 
-    extended-heard : (big : Bool) (p : ℕ) → p + 10 ≡ at → heardPayload k l (payload big (OptExtended.Present (extendedAt s p)) n s at) ≡ heardExtended big n k l s at
-    unfolding payload choose isVerbose isControl countOf extendedAt extendedOf heardExtended
-    extended-heard big p e =
-        let a : at - 10 ≡ p = omega arith in
-        let b : at - 9 ≡ p + 1 = omega arith in
-        rw (a, b, ← byte-number s p, ← byte-number s (p + 1), ← control-type (numberOf true 1 s p / 2 % 8) (numberOf true 1 s p / 16)) (kinds-heard big (flag 1 (numberOf true 1 s p)) (controlType (messageTypeBy (numberOf true 1 s p / 2 % 8) (numberOf true 1 s p / 16))) (isNetwork (OptExtended.Present (extendedAt s p))) (numberOf true 1 s (p + 1)))
-
     absent-heard : (big : Bool) → heardPayload k l (payload big OptExtended.Absent n s at) ≡ heardRun 4 n k l
     unfolding payload choose isVerbose isControl
     absent-heard big = plain-heard big
+
+-- the header's bytes stand before the payload, whose bytes end at the declared end
+extended-heard : (k l : ℕ) (s : List ℕ) (at n : ℕ) → at + n ≤ length s → (big : Bool) (p : ℕ) → p + 10 ≡ at
+    → heardPayload k l (payload big (OptExtended.Present (extendedAt s p)) n (take (at + n) s) at) ≡ heardExtended big n k l s at
+unfolding payload choose isVerbose isControl countOf extendedAt extendedOf heardExtended
+extended-heard k l s at n there big p e =
+    let a : at - 10 ≡ p = omega arith in
+    let b : at - 9 ≡ p + 1 = omega arith in
+    let w : length (take (at + n) s) ≡ at + n = length-take-le (at + n) s there in
+    rw (a, b, ← byte-number s p, ← byte-number s (p + 1), ← control-type (numberOf true 1 s p / 2 % 8) (numberOf true 1 s p / 16))
+    (kinds-heard k l (take (at + n) s) at n (omega arith) big (flag 1 (numberOf true 1 s p)) (controlType (messageTypeBy (numberOf true 1 s p / 2 % 8) (numberOf true 1 s p / 16))) (isNetwork (OptExtended.Present (extendedAt s p))) (numberOf true 1 s (p + 1)))
 
 -- the whole
 module _ (f : List ℕ) (filter : Filter) (s : List ℕ) (o : Outline) (byte : o .«header_type» < 256) (v : Seen s o) where
@@ -176,39 +204,48 @@ module _ (f : List ℕ) (filter : Filter) (s : List ℕ) (o : Outline) (byte : o
   abbrev h : Headers
   h = headersAt f filter s (o .place) t (o .length)
 
+  abbrev n : ℕ
+  n = o .length - allHeaders t
+
+  abbrev u : List ℕ
+  u = take (at + n) s
+
+  lies : at + n ≤ length s
+  lies = omega (arith, v .long, v .lies)
+
   abbrev extendedOutlined : OptExtended
   extendedOutlined = extendedIf (flag 1 t) s (extendedPlace t (o .place + 16))
 
-  outline-asked : heard (o .place) (16 + o .length) (body h s at) ≡ asked f filter s
-  unfolding asked message headersAt headersOf
+  outline-asked : heard (o .place) (16 + o .length) (confinedBody h s at) ≡ asked f filter s
+  unfolding asked confinedMessage headersAt headersOf
   outline-asked =
       let r = seen-routed f filter s o byte v in
-      rw (v .found, r, then-done (routed f filter true) body s 0 r, declared-again t (o .length) s (o .place + 16) byte (v .long))
+      rw (v .found, r, then-done (routed f filter true) confinedBody s 0 r, declared-again t (o .length) s (o .place + 16) byte (v .long))
 
-  outlined-heard : heardPayload (o .place) (16 + o .length) (payload (flag 2 t) extendedOutlined (o .length - allHeaders t) s at) ≡ heardOutline s o
+  outlined-heard : heardPayload (o .place) (16 + o .length) (payload (flag 2 t) extendedOutlined n u at) ≡ heardOutline s o
   unfolding heardOutline
   outlined-heard = by (flag 1 t) refl
     where
       by : (b : Bool) → flag 1 t ≡ b
-          → heardPayload (o .place) (16 + o .length) (payload (flag 2 t) (extendedIf b s (extendedPlace t (o .place + 16))) (o .length - allHeaders t) s at)
-          ≡ pick b (heardExtended (flag 2 t) (o .length - allHeaders t) (o .place) (16 + o .length) s at) (heardRun 4 (o .length - allHeaders t) (o .place) (16 + o .length))
+          → heardPayload (o .place) (16 + o .length) (payload (flag 2 t) (extendedIf b s (extendedPlace t (o .place + 16))) n u at)
+          ≡ pick b (heardExtended (flag 2 t) n (o .place) (16 + o .length) s at) (heardRun 4 n (o .place) (16 + o .length))
       by true e =
           let z : pick (flag 1 t) (extendedPlace t (o .place + 16) + 10) (extendedPlace t (o .place + 16)) ≡ extendedPlace t (o .place + 16) + 10 = rw e in
-          extended-heard (o .place) (16 + o .length) s at (o .length - allHeaders t) (omega (arith, v .long, v .lies)) (flag 2 t) (extendedPlace t (o .place + 16)) (omega (arith, z, headers-end t (o .place + 16)))
-      by false e = absent-heard (o .place) (16 + o .length) s at (o .length - allHeaders t) (omega (arith, v .long, v .lies)) (flag 2 t)
+          extended-heard (o .place) (16 + o .length) s at n lies (flag 2 t) (extendedPlace t (o .place + 16)) (omega (arith, z, headers-end t (o .place + 16)))
+      by false e =
+          let w : length u ≡ at + n = length-take-le (at + n) s lies in
+          absent-heard (o .place) (16 + o .length) u at n (omega arith) (flag 2 t)
 
   item-at : h .filtered ≡ false → heardOutline s o ≡ asked f filter s
   unfolding headersAt headersOf standardAt headerOf
   item-at q =
       sym outlined-heard
-      ∙ ap (λ (b : Bool). heardPayload (o .place) (16 + o .length) (payload b extendedOutlined (o .length - allHeaders t) s at)) (sym (big-order t))
-      ∙ item-heard (o .place) (16 + o .length) h s at q ∙ outline-asked
+      ∙ ap (λ (b : Bool). heardPayload (o .place) (16 + o .length) (payload b extendedOutlined n u at)) (sym (big-order t))
+      ∙ item-heard (o .place) (16 + o .length) h s at lies q ∙ outline-asked
 
   dropped-at : h .filtered ≡ true → Take (o .place) (16 + o .length) 1 ≡ asked f filter s
   unfolding headersAt headersOf standardAt headerOf
-  dropped-at q =
-      ap (heardDropped (o .place) (16 + o .length)) (sym (bytes-there s at (o .length - allHeaders t) (omega (arith, v .long, v .lies))))
-      ∙ dropped-heard (o .place) (16 + o .length) h s at q ∙ outline-asked
+  dropped-at q = dropped-heard (o .place) (16 + o .length) h s at lies q ∙ outline-asked
 
 -- ---- as the code has it: r is what a glance gave, b the filter's verdict
 module _ (f : List ℕ) (filter : Filter) (s : List ℕ) (r : OutlineAns) (e : r ≡ outlineOf s) where
@@ -219,13 +256,13 @@ module _ (f : List ℕ) (filter : Filter) (s : List ℕ) (r : OutlineAns) (e : r
   asked-filtered o b q byte d z = let v = seen-of s r e o q in dropped-at f filter s o byte v (verdict-said f filter s o v b d ∙ z)
 
   pub asked-refused : (i : ℕ) → r ≡ OutlineAns.Hickup i → Take i 4 2 ≡ asked f filter s
-  unfolding asked message
+  unfolding asked confinedMessage
   asked-refused i q =
       let v = refused-of s r e i q in
-      rw (v .found, then-hickup (routed f filter true) body s 0 (refused-routed f filter s i v))
+      rw (v .found, then-hickup (routed f filter true) confinedBody s 0 (refused-routed f filter s i v))
 
   pub asked-nowhere : (n : ℕ) → r ≡ OutlineAns.Nowhere n → Wait n ≡ asked f filter s
-  unfolding asked message
-  asked-nowhere n q = rw (then-need (routed f filter true) body s 0 (missed-routed f filter s n (missed-of s r e n q)))
+  unfolding asked confinedMessage
+  asked-nowhere n q = rw (then-need (routed f filter true) confinedBody s 0 (missed-routed f filter s n (missed-of s r e n q)))
 
 pub ruleset glancing = (list-done, list-need, list-hickup, run-there, run-short, info-verbose, info-control, info-plain, outline-extended, outline-plain, outline-passed, asked-outline, asked-filtered, asked-refused, asked-nowhere)

@@ -3,3 +3,5 @@ pub mod Fair
 pub mod Reading
 pub mod Determined
 pub mod Glance
+pub mod Past
+pub mod Own

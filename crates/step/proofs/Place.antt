@@ -7,30 +7,30 @@ use mathlib.Core.Bool.{Bool, true, false}
 use mathlib.Core.List.{List}
 use lib.ListN.{length}
 use lib.Dec.{leb, lit<}
-use borrow.Author.Tests.{leb-true}
-use Rattle.wire.specs.Answer.{Ans}
-use Rattle.wire.specs.Answer.Ans.{done, need, hickup, broken}
+use Rattle.wire.specs.Answer.Ans.{done, need}
 use Rattle.wire.specs.Lawful.{Waits}
-use Rattle.wire.specs.Parser.{pick, follow, _>>=_, here, choose, lacking}
+use Rattle.wire.specs.Parser.{pick, follow, _>>=_, here, choose}
 use Rattle.wire.specs.Number.{number}
 use Rattle.wire.specs.Run.{bytes}
-use Rattle.wire.proofs.Step.{here-is, ends, then-done, then-need}
+use Rattle.wire.proofs.Step.{here-is, ends}
 use Rattle.strings.specs.Text.{identified}
 use Rattle.mark.specs.First.{pattern, find}
 use Rattle.mark.specs.declared.Found.{Found}
 use Rattle.mark.proofs.Laws.{found-within}
 use Rattle.headertype.specs.HeaderType.{overallLength}
-use Rattle.headertype.specs.declared.StandardHeader.{StandardHeader}
 use Rattle.headers.specs.Standard.{standard}
+use Rattle.headers.proofs.Ends.{standard-ends}
 use Rattle.headers.proofs.Inverse.{split, of-ret, of-number, of-id, of-bytes, same-value, no-need}
 use Rattle.storage.specs.Storage.{fromMark, marked, storedOf, owned, stored, storage}
 use Rattle.storage.specs.declared.OptStored.{OptStored}
 use Rattle.storage.proofs.Laws.{stored-law}
 use Rattle.filter.specs.declared.Filter.{Filter}
-use Rattle.filtering.specs.declared.OptExtended.{OptExtended}
-use Rattle.parse.specs.Message.{havingFrom, seen, maybeExtended, headersOf, finished, headers, routed, body, message}
+use Rattle.parse.specs.Message.{maybeExtended, headersOf, finished, headers, routed}
 use Rattle.parse.specs.declared.Headers.{Headers}
 use Rattle.parse.proofs.Nothing.{headers-of-nothing}
+use Rattle.worth.proofs.Ends.{ext-ends}
+use Rattle.owned.proofs.Opening.{of-having}
+use Rattle.confined.specs.Confined.{confinedBody, confinedMessage}
 use Rattle.step.specs.Step.{skippedOf}
 
 -- behind the pattern: 16 bytes with it
@@ -67,53 +67,50 @@ storage-led {o} {n} s e = by (leb 16 (length s - 0)) (find pattern s 0) refl e
     by false x q g = no-need g
 
 -- the headers: the storage header handed on, and as many bytes as declared behind it
-having-from : {h : Headers} {n : ℕ} (start m : ℕ) (f : List ℕ → Headers) (s : List ℕ) (at : ℕ) → havingFrom start m (seen f) s at ≡ done h n → (h ≡ f s) × (m ≤ length s - start)
-unfolding havingFrom seen
-having-from {h} {n} start m f s at e = by (leb m (length s - start)) refl e
-  where
-    by : (b : Bool) → leb m (length s - start) ≡ b → pick b (done (f s) at) (need (lacking m s start)) ≡ done h n → (h ≡ f s) × (m ≤ length s - start)
-    by true q g = (same-value g .0, leb-true _ _ q)
-    by false q g = no-need g
-
 headers-hold : {h : Headers} {n : ℕ} (f : List ℕ) (filter : Filter) (o : OptStored) (s : List ℕ) (at : ℕ) → headers f filter o s at ≡ done h n
-    → (h .«storage_header» ≡ o) × (overallLength (h .header) ≤ length s - at)
-unfolding headers finished headersOf
-headers-hold {h} f filter o s at e =
+    → (h .«storage_header» ≡ o) × (overallLength (h .header) ≤ length s - at) × (n + h .header .«payload_length» ≡ at + overallLength (h .header))
+unfolding headers finished headersOf overallLength
+headers-hold {h} {n} f filter o s at e =
     let r1 = split here _ s at e in
     let r2 = split standard _ s (r1 .mid) (r1 .second) in
     let r3 = split (maybeExtended (r2 .value .«has_extended_header»)) _ s (r2 .mid) (r2 .second) in
-    let w = having-from (r1 .value) (overallLength (r2 .value)) (headersOf f filter o (r2 .value) (r3 .value)) s (r3 .mid) (r3 .second) in
+    let w = of-having (r1 .value) (overallLength (r2 .value)) (headersOf f filter o (r2 .value) (r3 .value)) s (r3 .mid) (r3 .second) in
     let p : r1 .value ≡ at = same-value (sym (here-is s at) ∙ r1 .first) .0 in
     let l : overallLength (h .header) ≡ overallLength (r2 .value) = ap (λ (x : Headers). overallLength (x .header)) (w .0) in
-    (ap (λ (x : Headers). x .«storage_header») (w .0), omega (arith, w .1, l, p))
+    let y : h .header .«payload_length» ≡ r2 .value .«payload_length» = ap (λ (x : Headers). x .header .«payload_length») (w .0) in
+    let q : r1 .mid ≡ at = same-value (sym (here-is s at) ∙ r1 .first) .1 in
+    let a = standard-ends (r2 .value) (r2 .mid) s (r1 .mid) (r2 .first) in
+    let b = ext-ends (r2 .value .«has_extended_header») (r3 .value) (r3 .mid) s (r2 .mid) (r3 .first) in
+    (ap (λ (x : Headers). x .«storage_header») (w .0), omega (arith, w .2, l, p), omega (arith, w .1, l, y, q, a, b))
 
--- a message whose headers are read: its pattern, the bytes skipped, and that it lies within the bytes
-pub record Placed (s : List ℕ) (h : Headers) : Type 0 where
+-- a message whose headers are read, and end at n: its pattern, the bytes skipped, that it lies within the bytes, and where its payload ends
+pub record Placed (s : List ℕ) (h : Headers) (n : ℕ) : Type 0 where
   pub place : ℕ
   pub found : find pattern s 0 ≡ Found.At place
   pub skips : skippedOf (h .«storage_header») ≡ place
   pub lies : place + (16 + overallLength (h .header)) ≤ length s
+  pub end : n + h .header .«payload_length» ≡ place + (16 + overallLength (h .header))
 
 module _ (f : List ℕ) (filter : Filter) (s : List ℕ) where
-  place-of : {h : Headers} {o : OptStored} {m n : ℕ} → Led s o m → headers f filter o s m ≡ done h n → Placed s h
+  place-of : {h : Headers} {o : OptStored} {m n : ℕ} → Led s o m → headers f filter o s m ≡ done h n → Placed s h n
   place-of {h} {o} {m} (led i q k e l) g =
       let w = headers-hold f filter o s m g in
-      record { place = i; found = q; skips = ap skippedOf (w .0) ∙ k; lies = omega (arith, w .1, e, l) }
+      record { place = i; found = q; skips = ap skippedOf (w .0) ∙ k; lies = omega (arith, w .1, e, l); end = omega (arith, w .2, e) }
   place-of {h} {o} {m} {n} (none a e) g =
       let z : headers f filter OptStored.Absent s (length s) ≡ done h n = rw (← a, ← e) g in
       no-need (sym (headers-of-nothing f filter OptStored.Absent s) ∙ z)
 
-  pub placed : {h : Headers} {n : ℕ} → routed f filter true s 0 ≡ done h n → Placed s h
+  pub placed : {h : Headers} {n : ℕ} → routed f filter true s 0 ≡ done h n → Placed s h n
   unfolding routed choose
   placed e =
       let r = split storage _ s 0 e in
       place-of (storage-led s (r .first)) (r .second)
 
   -- no pattern: the rule waits
-  behind-none : (b : Bool) → Waits (follow (follow (pick b (done OptStored.Absent (length s)) (need 0)) (λ o. headers f filter o) s) body s)
+  behind-none : (b : Bool) → Waits (follow (follow (pick b (done OptStored.Absent (length s)) (need 0)) (λ o. headers f filter o) s) confinedBody s)
   behind-none true = rw (headers-of-nothing f filter OptStored.Absent s) tt
   behind-none false = tt
 
-  pub no-pattern : find pattern s 0 ≡ Found.Nothing → Waits (message f filter true s 0)
-  unfolding message routed choose storage marked _>>=_
+  pub no-pattern : find pattern s 0 ≡ Found.Nothing → Waits (confinedMessage f filter true s 0)
+  unfolding confinedMessage routed choose storage marked _>>=_
   no-pattern e = rw e (behind-none (leb 16 (length s - 0)))

@@ -51,7 +51,7 @@ unfolding opening choose
 parts true l n s at e = let r = split storage openingBehind s at e in behind-parts (r .value) l n s (r .mid) (r .second)
 parts false l n s at e = behind-parts OptStored.Absent l n s at e
 
-ext-ends : (t : Bool) (o : OptExtended) (n : ℕ) (s : List ℕ) (at : ℕ) → maybeExtended t s at ≡ done o n → n ≡ at + oneIf t * 10
+pub ext-ends : (t : Bool) (o : OptExtended) (n : ℕ) (s : List ℕ) (at : ℕ) → maybeExtended t s at ≡ done o n → n ≡ at + oneIf t * 10
 unfolding maybeExtended choose
 ext-ends true o n s at e =
     let r = split extended (λ x. ret (OptExtended.Present x)) s at e in

@@ -75,7 +75,7 @@ module _ (f : List ℕ) (t : Bool) (s : List ℕ) (n b : ℕ) where
   unfolding messageOf judged
   never-filtered e = by (filterOf f) e
     where
-      by : (v : FilterAns) → judged f t s v ≡ Answer.answered (done (ParsedMessage.FilteredOut n) b) → Extended t s
+      by : (v : FilterAns) → judged (λ filter. message f filter t s 0) v ≡ Answer.answered (done (ParsedMessage.FilteredOut n) b) → Extended t s
       by (FilterAns.Good filter) q = message-extended filter (let z : message f filter t s 0 ≡ done (ParsedMessage.FilteredOut n) b = cc in z)
       by FilterAns.Retired q = let z : _≡_ {A = ℕ} 0 1 = cc in absurd (omega arith)
       by FilterAns.Bad q = let z : _≡_ {A = ℕ} 0 1 = cc in absurd (omega arith)

@@ -79,7 +79,7 @@ behind-law : (o : OptStored) → Lawful (openingBehind o)
 unfolding openingBehind
 behind-law o = search (laws, standard-law, maybeExtended-law) depth 20
 
-behind-nothing : (s : List ℕ) → openingBehind OptStored.Absent s (length s) ≡ need 1
+pub behind-nothing : (s : List ℕ) → openingBehind OptStored.Absent s (length s) ≡ need 1
 unfolding openingBehind
 behind-nothing s = then-done here _ s (length s) (here-is s (length s)) ∙ then-need standard _ s (length s) (standard-of-nothing s)
 

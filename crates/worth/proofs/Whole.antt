@@ -17,7 +17,7 @@ use Rattle.filter.specs.Filter.{filterOf}
 use Rattle.filter.specs.declared.Filter.{Filter}
 use Rattle.filter.specs.declared.FilterAns.{FilterAns}
 use Rattle.payload.specs.Payload.{isVerbose}
-use Rattle.parse.specs.Message.{message, judged, messageOf, numberedMessage}
+use Rattle.parse.specs.Message.{message, judged, messageOf, numberedAnswer}
 use Rattle.parse.specs.declared.ParsedMessage.{ParsedMessage}
 use Rattle.worth.specs.Opening.{Opening, opening}
 use Rattle.worth.specs.Need.{Short, ByLength, Whose, DecidedCall}
@@ -33,21 +33,21 @@ module _ (f : List ℕ) (t : Bool) (s : List ℕ) where
     good : filterOf f ≡ FilterAns.Good filter
     waiting : message f filter t s 0 ≡ need n
 
-  asked : (n : ℕ) (v : FilterAns) → filterOf f ≡ v → numberedMessage (judged f t s v) ≡ waits n → Asked n
+  asked : (n : ℕ) (v : FilterAns) → filterOf f ≡ v → numberedAnswer (judged (λ filter. message f filter t s 0) v) ≡ waits n → Asked n
   unfolding judged
   asked n (FilterAns.Good filter) q e = record { filter = filter; good = q; waiting = of-need (message f filter t s 0) n e }
   asked n FilterAns.Retired q e = absurd (omega (arith, ap (λ (x : Numbered ParsedMessage). x .number) e))
   asked n FilterAns.Bad q e = absurd (omega (arith, ap (λ (x : Numbered ParsedMessage). x .number) e))
 
-  pub whole-given : (filter : Filter) (n : ℕ) (l : Opening) → filterOf f ≡ FilterAns.Good filter → Short t s n l → numberedMessage (messageOf f t s) ≡ waits n
+  pub whole-given : (filter : Filter) (n : ℕ) (l : Opening) → filterOf f ≡ FilterAns.Good filter → Short t s n l → numberedAnswer (messageOf f t s) ≡ waits n
   unfolding messageOf judged
   whole-given filter n l q short = rw (q, given f filter t s n l short)
 
-  pub whole-whose : (n : ℕ) → numberedMessage (messageOf f t s) ≡ waits n → (filter : Filter) × (filterOf f ≡ FilterAns.Good filter) × Whose f filter t s n
+  pub whole-whose : (n : ℕ) → numberedAnswer (messageOf f t s) ≡ waits n → (filter : Filter) × (filterOf f ≡ FilterAns.Good filter) × Whose f filter t s n
   unfolding messageOf
   whole-whose n e = let a = asked n (filterOf f) refl e in (a .filter, a .good, whose f (a .filter) t s n (a .waiting))
 
-  module _ (n : ℕ) (incomplete : numberedMessage (messageOf f t s) ≡ waits n) (l : Opening) (behind : ℕ) (read : opening t s 0 ≡ done l behind)
+  module _ (n : ℕ) (incomplete : numberedAnswer (messageOf f t s) ≡ waits n) (l : Opening) (behind : ℕ) (read : opening t s 0 ≡ done l behind)
       (more : List ℕ) (enough : length more ≡ n) where
     judged-worth : (filter : Filter) → filterOf f ≡ FilterAns.Good filter → message f filter t s 0 ≡ need n → ByLength f filter s l → DecidedCall (length (s ++ more)) (messageOf f t (s ++ more))
     unfolding messageOf judged

@@ -33,6 +33,16 @@ use Rattle.worth.proofs.Opening.{check, routed-is, opening-law}
 use Rattle.worth.proofs.Ends.{parts, opening-ends, ecu-in, ids-in}
 use Rattle.worth.proofs.Decided.{dropped-decided, quiet-decided}
 
+-- ---- two needs that are one; an answer that is another than a need
+pub same-need : {A : Type 0} {m n : ℕ} → _≡_ {A = Ans A} (need m) (need n) → m ≡ n
+same-need e = cc
+
+pub no-hickup-need : {A X : Type 0} {r n : ℕ} → _≡_ {A = Ans A} (hickup r) (need n) → X
+no-hickup-need {A} e = absurd (omega (arith, ap (λ (x : Ans A). numbered x .number) e))
+
+pub no-broken-need : {A X : Type 0} {n : ℕ} → _≡_ {A = Ans A} broken (need n) → X
+no-broken-need {A} e = absurd (omega (arith, ap (λ (x : Ans A). numbered x .number) e))
+
 -- ---- step 5 by itself: the declared bytes are there, or they aren't
 module _ {A : Type 0} (start n : ℕ) (s : List ℕ) (at : ℕ) where
   lacks : (p : Parser A) (m : ℕ) → length s - start + m ≡ n → 0 < m → havingFrom start n p s at ≡ need m
@@ -41,20 +51,25 @@ module _ {A : Type 0} (start n : ℕ) (s : List ℕ) (at : ℕ) where
       let z : lacking n s start ≡ m = omega arith in
       rw (lt-leb n (length s - start) (omega arith)) (ap need z)
 
-  stands : (f : List ℕ → A) → n ≤ length s - start → havingFrom start n (seen f) s at ≡ done (f s) at
+  pub stands : (f : List ℕ → A) → n ≤ length s - start → havingFrom start n (seen f) s at ≡ done (f s) at
   unfolding havingFrom seen
   stands f h = rw (le-leb n (length s - start) h)
 
 -- ---- where the headers are read
 module _ (t : Bool) (s : List ℕ) (l : Opening) (behind : ℕ) (read : opening t s 0 ≡ done l behind) where
-  ending : behind ≡ l .start + allHeaders (headerTypeByte (l .header))
+  pub ending : behind ≡ l .start + allHeaders (headerTypeByte (l .header))
   ending = opening-ends (parts t l behind s 0 read)
 
-  begins : l .start ≤ length s
+  pub begins : l .start ≤ length s
   begins = omega (arith, ends {p = opening t} s 0 (opening-law t) zero-le read .1, ending)
 
+  -- the payload ends where the declared bytes do
+  pub payload-end : behind + l .header .«payload_length» ≡ l .start + overallLength (l .header)
+  unfolding overallLength
+  payload-end = omega (arith, ending)
+
   -- they are read with more bytes too
-  still : (more : List ℕ) → opening t (s ++ more) 0 ≡ done l behind
+  pub still : (more : List ℕ) → opening t (s ++ more) 0 ≡ done l behind
   still more = subst (λ (x : Ans Opening). Kept x (length more) (opening t (s ++ more) 0)) read (opening-law t .kept s more 0 zero-le)
 
   module _ (f : List ℕ) (filter : Filter) where
@@ -71,19 +86,23 @@ module _ (t : Bool) (s : List ℕ) (l : Opening) (behind : ℕ) (read : opening 
       abbrev heads : Headers
       heads = headersOf f filter (l .stored) (l .header) (l .extended) s
 
+      pub heads-read : routed f filter t s 0 ≡ done (headersOf f filter (l .stored) (l .header) (l .extended) s) behind
+      unfolding check
+      heads-read = routed-next ∙ stands (l .start) (overallLength (l .header)) s behind (headersOf f filter (l .stored) (l .header) (l .extended)) there
+
       to-body : message f filter t s 0 ≡ body heads s behind
-      unfolding message check
-      to-body = then-done (routed f filter t) body s 0 (routed-next ∙ stands (l .start) (overallLength (l .header)) s behind (headersOf f filter (l .stored) (l .header) (l .extended)) there)
+      unfolding message
+      to-body = then-done (routed f filter t) body s 0 heads-read
 
       by-length : ByLength f filter s l → Decided (l .start + overallLength (l .header)) (message f filter t s 0)
-      unfolding headersOf overallLength
+      unfolding headersOf
       by-length c = rw to-body (subst (λ (n : ℕ). Decided n (body heads s behind)) end (by c))
         where
           room : behind + heads .header .«payload_length» ≤ length s
-          room = omega (arith, ending, begins, there)
+          room = omega (arith, payload-end, begins, there)
 
           end : behind + heads .header .«payload_length» ≡ l .start + overallLength (l .header)
-          end = omega (arith, ending)
+          end = payload-end
 
           by : ByLength f filter s l → Decided (behind + heads .header .«payload_length») (body heads s behind)
           by (ByLength.quiet v) = quiet-decided heads s behind room v
@@ -91,12 +110,15 @@ module _ (t : Bool) (s : List ℕ) (l : Opening) (behind : ℕ) (read : opening 
 
 -- ---- step 5 gave the need
 module _ (f : List ℕ) (filter : Filter) (t : Bool) (s : List ℕ) (n : ℕ) (l : Opening) (short : Short t s n l) where
+  pub heads-lack : routed f filter t s 0 ≡ need n
+  unfolding check
+  heads-lack =
+      routed-next t s l (short .behind) (short .read) f filter
+      ∙ lacks (l .start) (overallLength (l .header)) s (short .behind) (seen (headersOf f filter (l .stored) (l .header) (l .extended))) n (omega (arith, short .missing)) (omega (arith, short .some))
+
   pub given : message f filter t s 0 ≡ need n
-  unfolding message check
-  given =
-      then-need (routed f filter t) body s 0
-      (routed-next t s l (short .behind) (short .read) f filter
-      ∙ lacks (l .start) (overallLength (l .header)) s (short .behind) (seen (headersOf f filter (l .stored) (l .header) (l .extended))) n (omega (arith, short .missing)) (omega (arith, short .some)))
+  unfolding message
+  given = then-need (routed f filter t) body s 0 heads-lack
 
   -- exactly that many more bytes, of any value, bring a decided answer, and every byte is used
   pub worth : ByLength f filter s l → (more : List ℕ) → length more ≡ n → Decided (length (s ++ more)) (message f filter t (s ++ more) 0)
@@ -125,15 +147,6 @@ module _ (f : List ℕ) (filter : Filter) (t : Bool) (s : List ℕ) (n : ℕ) (l
 
 -- ---- and whose the need is
 module _ (f : List ℕ) (filter : Filter) (t : Bool) (s : List ℕ) (n : ℕ) where
-  same-need : {m : ℕ} → _≡_ {A = Ans ParsedMessage} (need m) (need n) → m ≡ n
-  same-need e = cc
-
-  no-hickup-need : {r : ℕ} → _≡_ {A = Ans ParsedMessage} (hickup r) (need n) → ⊥
-  no-hickup-need e = omega (arith, ap (λ (x : Ans ParsedMessage). numbered x .number) e)
-
-  no-broken-need : _≡_ {A = Ans ParsedMessage} broken (need n) → ⊥
-  no-broken-need e = omega (arith, ap (λ (x : Ans ParsedMessage). numbered x .number) e)
-
   module _ (l : Opening) (behind : ℕ) (read : opening t s 0 ≡ done l behind) (e : message f filter t s 0 ≡ need n) where
     abbrev all : ℕ
     all = overallLength (l .header)
@@ -177,5 +190,5 @@ module _ (f : List ℕ) (filter : Filter) (t : Bool) (s : List ℕ) (n : ℕ) wh
       by : (x : Ans Opening) → opening t s 0 ≡ x → Whose f filter t s n
       by (done l behind) q = behind-headers l behind q e
       by (need m) q = Whose.early (q ∙ ap need (same-need (sym (then-need (routed f filter t) body s 0 (first (then-need (opening t) (check f filter) s 0 q))) ∙ e)))
-      by (hickup r) q = absurd (no-hickup-need (sym (then-hickup (routed f filter t) body s 0 (first (then-hickup (opening t) (check f filter) s 0 q))) ∙ e))
-      by broken q = absurd (no-broken-need (sym (then-broken (routed f filter t) body s 0 (first (then-broken (opening t) (check f filter) s 0 q))) ∙ e))
+      by (hickup r) q = no-hickup-need (sym (then-hickup (routed f filter t) body s 0 (first (then-hickup (opening t) (check f filter) s 0 q))) ∙ e)
+      by broken q = no-broken-need (sym (then-broken (routed f filter t) body s 0 (first (then-broken (opening t) (check f filter) s 0 q))) ∙ e)

@@ -40,7 +40,7 @@ Decided all (hickup r) = ⊥
 Decided all broken = Unit
 
 -- the same of the whole call, and neither BadFilter nor RetiredTag
-abbrev pub DecidedCall : ℕ → Answer → Type 0
+abbrev pub DecidedCall : {A : Type 0} → ℕ → Answer A → Type 0
 DecidedCall all Answer.badFilter = ⊥
 DecidedCall all Answer.retiredTag = ⊥
 DecidedCall all (Answer.answered x) = Decided all x

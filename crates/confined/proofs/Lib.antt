@@ -1,0 +1,5 @@
+pub mod Reading
+pub mod Laws
+pub mod Worth
+pub mod Determined
+pub mod Whole

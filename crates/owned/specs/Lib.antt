@@ -1,0 +1,3 @@
+pub mod Thrifty
+pub mod Overran
+pub mod Beside
