@@ -74,21 +74,44 @@ fn core_messages(bytes: &[u8], filter: Option<&ProcessedDltFilterConfig>) -> u64
     items
 }
 
-/// Document 01's walk by the crate's own calls.
+/// The walk over a trace of which no message overruns: there `dlt_message` over all bytes gives the rule's entries.
 fn core_indexed(bytes: &[u8], filter: Option<&ProcessedDltFilterConfig>) -> u64 {
+    core_walked(bytes, filter, |_| None)
+}
+
+/// The walk over any trace, as the rule has it: each message sees its bytes up to the declared end alone.
+fn core_confined(bytes: &[u8]) -> u64 {
+    core_walked(bytes, None, core_declared_end)
+}
+
+/// Where the declared bytes end, if the crate accepts the standard header and they are all there.
+fn core_declared_end(bytes: &[u8]) -> Option<usize> {
+    let (_, stored) = parse::forward_to_next_storage_header(bytes)?;
+    match dlt_consume_msg(stored) {
+        Ok((rest, Some(_))) => Some(bytes.len() - rest.len()),
+        _ => None,
+    }
+}
+
+/// Document 01's walk by the crate's own calls: `dlt_message` up to a declared end, where Incomplete is an overrun, or over all bytes, where it waits.
+fn core_walked(bytes: &[u8], filter: Option<&ProcessedDltFilterConfig>, declared_end: impl Fn(&[u8]) -> Option<usize>) -> u64 {
     let mut entries: Vec<(usize, usize, usize, u8)> = Vec::new();
     let mut at = 0;
     while at < bytes.len() {
-        let read = dlt_message(&bytes[at..], filter, true);
-        if matches!(read, Err(parse::DltParseError::IncompleteParse { .. })) {
+        let left = &bytes[at..];
+        let end = declared_end(left);
+        let read = dlt_message(end.map_or(left, |end| &left[..end]), filter, true);
+        let lacks = matches!(read, Err(parse::DltParseError::IncompleteParse { .. }));
+        if lacks && end.is_none() {
             break;
         }
-        let Some((skipped, _)) = parse::forward_to_next_storage_header(&bytes[at..]) else { break };
+        let Some((skipped, _)) = parse::forward_to_next_storage_header(left) else { break };
         let start = at + skipped as usize;
         let declared = usize::from(u16::from_be_bytes([bytes[start + 18], bytes[start + 19]]));
         let (length, kind) = match read {
             Ok((_, ParsedMessage::Item(_))) => (16 + declared, 0),
             Ok(_) => (16 + declared, 1),
+            Err(_) if lacks => (16 + declared, 4),
             Err(_) => (4, 2),
         };
         entries.push((start, skipped as usize, length, kind));
@@ -200,7 +223,7 @@ fn main() {
     drop((trace, clean));
     other_ids(rounds, &mut table);
     searches(rounds);
-    worst(rounds);
+    worst(rounds, &mut table);
 }
 
 /// The mixed trace with other identifiers. The index looks at them only under a filter.
@@ -228,7 +251,7 @@ fn searches(rounds: u32) {
     }
 }
 
-fn worst(rounds: u32) {
+fn worst(rounds: u32, table: &mut [u64]) {
     for (name, bytes) in [
         ("20-byte hickups", traces::hickups(SIZE / 4)),
         ("255 arguments each", traces::repeated(SIZE, &traces::many_arguments())),
@@ -237,6 +260,9 @@ fn worst(rounds: u32) {
     ] {
         row(&format!("dlt_message, {name}"), bytes.len(), "dlt-core", in_turn(rounds, || Linked.messages(&bytes, &[], false), || core_messages(&bytes, None)));
     }
+    // ours: one index call; dlt-core: the search, dlt_consume_msg for the declared end, and dlt_message up to there
+    let overruns = traces::overruns(SIZE);
+    row("index, counted arguments far past the declared end", overruns.len(), "dlt-core", in_turn(rounds, || Linked.indexed(&overruns, &[], SIZE * 2, table), || core_confined(&overruns)));
     let small = traces::mixed(SIZE / 16, 7, true, Ids::Letters);
     let (bytes, config) = filters(64, "APP", Ids::Letters);
     row("dlt_message, filter of three sets of 64", small.len(), "dlt-core", in_turn(rounds, || Linked.messages(&small, &bytes, false), || core_messages(&small, Some(&config))));

@@ -182,6 +182,15 @@ pub fn past_the_end(size: usize) -> Vec<u8> {
     repeated(size, &one)
 }
 
+/// Messages that count 255 arguments and declare twenty numbers and the beginning of a string of 65,535 bytes: the rest lies far past the declared end.
+pub fn overruns(size: usize) -> Vec<u8> {
+    let mut payload: Vec<u8> = (0..20).flat_map(|i| [0x41, 0, 0, 0, i]).collect();
+    payload.extend(b"\0\x82\0\0\xff\xffsome text");
+    let mut one = Vec::new();
+    message(&mut one, &mut Rng::new(1), &Frame { big: false, extended: Some((0x41, 255)), ids: Ids::Letters }, &payload);
+    repeated(size, &one)
+}
+
 /// The recordings of the folder that CORPUS names, one after the other, repeated; where there are none, that is said.
 pub fn corpus(size: usize) -> Option<Vec<u8>> {
     let folder = std::env::var("CORPUS").unwrap_or(concat!(env!("CARGO_MANIFEST_DIR"), "/../../shared/corpus/real").to_string());

@@ -26,6 +26,12 @@ static const uint8_t message[] = {
     0, 2, 0, 0, 3, 0, 'h', 'i', 0,
     0x23, 0x18, 0, 0, 2, 0, 2, 0, 'n', 0, 'u', 0, 0, 0, 0x80, 0x3F, 1, 0, 0, 0, 9, 0, 0, 0,
 };
+/* the first of these arguments with one byte too few declared */
+static const uint8_t overrun[] = {
+    'D', 'L', 'T', 1, 1, 0, 0, 0, 2, 0, 0, 0, 'E', 'C', 'U', '1',
+    0x3D, 7, 0, 30, 'E', 'C', 'U', '1', 0, 0, 0, 9, 0, 0, 0, 5, 0x41, 3, 'A', 'P', 'P', 0, 'C', 'T', 'X', 0,
+    0x11, 0, 0, 0,
+};
 static const uint8_t filter[] = {2, 0, 8, 'A', 'P', 'P', 0, 'B', 'P', 'P', 0, 3, 0, 4, 'E', 'C', 'U', '1'};
 static const uint32_t words[] = {0x41, 0x200};
 static const uint8_t data[] = {7, 3, 0, 'h', 'i', 0};
@@ -45,6 +51,8 @@ int main(void) {
     MEASURE("dlt_raw_value", a = dlt_raw_value(message, sizeof message, at, left, false, out, 64));
     MEASURE("dlt_index", i = dlt_index(message, sizeof message, filter, 0, 0, 0, table, 64, SIZE_MAX));
     MEASURE("dlt_index, with a filter", i = dlt_index(message, sizeof message, filter, sizeof filter, 0, 0, table, 64, SIZE_MAX));
+    MEASURE("dlt_index, an overrun", i = dlt_index(overrun, sizeof overrun, filter, 0, 0, 0, table, 64, SIZE_MAX));
+    if (i.used != 1 || table[DLT_ENTRY_KIND] != 4) printf("dlt_index found no overrun\n");
     MEASURE("dlt_forward_to_next_storage_header", a = dlt_forward_to_next_storage_header(message, sizeof message, 1));
     MEASURE("dlt_consume_msg", a = dlt_consume_msg(message, sizeof message));
     MEASURE("dlt_construct_arguments", a = dlt_construct_arguments(false, words, 2, data, sizeof data));

@@ -95,6 +95,9 @@ pub struct RawCursor {
 /// One message at the front of the bytes, under a filter (document 01, "Filter bytes", without counts; empty for none), with how many bytes were used.
 /// A message without an extended header is never filtered out.
 ///
+/// Arguments of a verbose message are read from all bytes given, past its declared end too. To keep it to its own, give the bytes up to that end, as an index
+/// entry tells it: Incomplete then means that arguments overrun.
+///
 /// ```
 /// use host::{message, Parsed, Reason, Refusal};
 /// assert_eq!(message(&[0x20, 7, 0, 8, 0], &[], false), Err(Refusal::Incomplete(3)));

@@ -233,6 +233,7 @@ pub fn entry_text(entry: &crate::Entry) -> String {
         crate::EntryKind::Filtered => "filtered",
         crate::EntryKind::Hickup => "hickup",
         crate::EntryKind::Unrecoverable => "unrecoverable",
+        crate::EntryKind::Overrun => "overrun",
     };
     format!("{} {} {} {kind}", entry.start, entry.skipped, entry.length)
 }

@@ -14,6 +14,9 @@ pub enum EntryKind {
     Hickup,
     /// A message whose payload is too short for what it must hold.
     Unrecoverable,
+    /// A message whose arguments lack bytes within its declared length. [`message`](crate::message()) of the bytes up to the entry's end says Incomplete; of
+    /// more bytes it may still give an item, which borrows from the neighbour.
+    Overrun,
 }
 
 /// One entry of the table.
@@ -24,7 +27,8 @@ pub struct Entry {
     pub start: u64,
     /// The bytes skipped before it.
     pub skipped: u64,
-    /// 16 plus the declared length, or 4 for a hickup and an unrecoverable message.
+    /// 16 plus the declared length, of an overrun too, or 4 for a hickup and an unrecoverable message. The walk goes on behind it: bytes inside are not
+    /// searched for a pattern, so an overrun whose declared length is damaged takes what it covers with it.
     pub length: u64,
     kind: u64,
 }
@@ -36,7 +40,10 @@ impl Entry {
             0 => EntryKind::Item,
             1 => EntryKind::Filtered,
             2 => EntryKind::Hickup,
-            _ => EntryKind::Unrecoverable,
+            3 => EntryKind::Unrecoverable,
+            4 => EntryKind::Overrun,
+            // entries are written by the index alone, and it has no other kind
+            other => unreachable!("entry kind {other}"),
         }
     }
 }
@@ -53,7 +60,7 @@ pub struct State {
 /// How a call's walk ended.
 #[derive(Clone, Copy, Debug, PartialEq, Eq)]
 pub enum End {
-    /// It waits for at least so many bytes, 0 for unknown.
+    /// It waits for at least so many bytes, 0 for unknown. If the headers of the message that it waits for are there, exactly so many decide it.
     Waits(u64),
     /// A decided message remains and the table has no free entry.
     Full,
@@ -89,6 +96,9 @@ pub enum IndexRefusal {
 }
 
 /// The index call. `bytes` are those from the state's resume position on. It stops after `n` entries; [`NO_LIMIT`] is none.
+///
+/// No message looks past its declared end: arguments that lack bytes there are an [`Overrun`](EntryKind::Overrun), and once a standard header is accepted
+/// the walk waits for declared bytes alone.
 ///
 /// ```
 /// use host::{index, Entry, End, EntryKind, State, NO_LIMIT};

@@ -1,21 +1,33 @@
 //! Holds the oracle to answers that were written down before.
 
-use crate::{answer, index, request, retire};
+use crate::index::{whole_walk, Reach};
+use crate::{answer, request, retire};
+use std::fmt;
 use std::fs;
 use std::path::{Path, PathBuf};
 
 /// Checks both parts and prints what differs; true if nothing does.
 pub fn check(design: &Path, corpus: &Path) -> Result<bool, String> {
     answer::be_silent_in_panics();
-    let (walks, walks_differ) = check_walks(corpus)?;
-    println!("{walks} walks, {walks_differ} differ");
+    let mut walks = Held::default();
+    for recording in &recordings(corpus)? {
+        if recording.written.is_none() {
+            return Err(format!("no walk of {} is written", recording.name));
+        }
+        walks.hold(recording, &recording.walk());
+    }
+    println!("{walks}");
     let (answers, answers_differ) = check_answers(design)?;
     println!("{answers} answers, {answers_differ} differ");
-    Ok(walks_differ + answers_differ == 0)
+    Ok(walks.differ + answers_differ == 0)
 }
 
 fn read(path: &Path) -> Result<Vec<u8>, String> {
     fs::read(path).map_err(|error| format!("can't read {}: {error}", path.display()))
+}
+
+fn text(path: &Path) -> Result<String, String> {
+    String::from_utf8(read(path)?).map_err(|_| format!("{} is no text", path.display()))
 }
 
 /// A request and its answer.
@@ -28,13 +40,15 @@ pub fn written_answers(design: &Path) -> Result<Vec<Pair>, String> {
         pairs.extend(answers_in(design, name)?.into_iter().map(as_it_is_now));
     }
     let is_read = |(request, _): &Pair| request::read(request.as_bytes()).is_some();
-    pairs.extend(answers_in(design, "wishes/vectors/vectors11.txt")?.into_iter().filter(is_read));
+    for name in ["wishes/vectors/vectors3.txt", "wishes/vectors/vectors11.txt"] {
+        pairs.extend(answers_in(design, name)?.into_iter().filter(is_read));
+    }
     Ok(pairs)
 }
 
 /// Requests stand behind `> `, the answer on the line after; `#` begins a comment.
 fn answers_in(design: &Path, name: &str) -> Result<Vec<Pair>, String> {
-    let words = String::from_utf8(read(&design.join(name))?).map_err(|_| format!("{name} is no text"))?;
+    let words = text(&design.join(name))?;
     let mut pairs = Vec::new();
     let mut lines = words.lines();
     while let Some(line) = lines.next() {
@@ -65,23 +79,81 @@ fn check_answers(design: &Path) -> Result<(usize, usize), String> {
     Ok((pairs.len(), differ))
 }
 
-/// Each recording FOLDER/NAME has its walk in walks/FOLDER-NAME.txt.
-fn check_walks(corpus: &Path) -> Result<(usize, usize), String> {
-    let mut count = 0;
-    let mut differ = 0;
+/// A recording, and its walk if one was written down.
+pub struct Recording {
+    pub name: String,
+    pub bytes: Vec<u8>,
+    pub written: Option<String>,
+}
+
+impl Recording {
+    pub fn walk(&self) -> String {
+        self.walk_by(Reach::Declared)
+    }
+
+    /// With a newline at its end; what went wrong, where there is none.
+    fn walk_by(&self, reach: Reach) -> String {
+        whole_walk(&self.bytes, reach).unwrap_or_else(|line| line) + "\n"
+    }
+}
+
+/// Each recording FOLDER/NAME of the corpus may have its walk in walks/FOLDER-NAME.txt.
+pub fn recordings(corpus: &Path) -> Result<Vec<Recording>, String> {
+    let mut all = Vec::new();
     for folder in ["real", "damaged", "stream"] {
-        for recording in files(&corpus.join(folder))? {
-            let name = recording.file_name().unwrap_or_default().to_string_lossy().to_string();
-            let expected = read(&corpus.join("walks").join(format!("{folder}-{name}.txt")))?;
-            let walked = index::whole_walk(&read(&recording)?).unwrap_or_else(|line| line) + "\n";
-            count += 1;
-            if walked.as_bytes() != expected {
-                differ += 1;
-                println!("the walk of {folder}/{name} differs");
-            }
+        for path in files(&corpus.join(folder))? {
+            let name = path.file_name().unwrap_or_default().to_string_lossy().to_string();
+            let walk = corpus.join("walks").join(format!("{folder}-{name}.txt"));
+            let written = if walk.exists() { Some(text(&walk)?) } else { None };
+            all.push(Recording { name: format!("{folder}/{name}"), bytes: read(&path)?, written });
         }
     }
-    Ok((count, differ))
+    Ok(all)
+}
+
+/// Walks that were held to written ones.
+#[derive(Default)]
+pub struct Held {
+    walks: usize,
+    overrun: usize,
+    pub differ: usize,
+}
+
+impl Held {
+    /// A written walk knows no overrun: it must be the walk without them, and where there are none this walk. Where there
+    /// are some, both are told.
+    pub fn hold(&mut self, recording: &Recording, walk: &str) {
+        let Recording { name, written: Some(written), .. } = recording else {
+            return;
+        };
+        self.walks += 1;
+        let overruns = entries_of(walk, "overrun") > 0;
+        if overruns {
+            self.overrun += 1;
+            println!("{name}: {}; without overruns {}", sum_of(walk), sum_of(written));
+        }
+        if recording.walk_by(Reach::Further) != *written || !overruns && walk != written {
+            self.differ += 1;
+            println!("the walk of {name} differs");
+        }
+    }
+}
+
+impl fmt::Display for Held {
+    fn fmt(&self, line: &mut fmt::Formatter) -> fmt::Result {
+        write!(line, "{} walks, {} of them with overruns, {} differ", self.walks, self.overrun, self.differ)
+    }
+}
+
+fn entries_of(walk: &str, kind: &str) -> usize {
+    walk.lines().filter(|line| line.split(' ').nth(3) == Some(kind)).count()
+}
+
+/// How many entries of each kind a walk has, and its last line.
+fn sum_of(walk: &str) -> String {
+    let counts = ["item", "filtered", "hickup", "unrecoverable", "overrun"].map(|kind| (entries_of(walk, kind), kind));
+    let there = counts.iter().filter(|(count, _)| *count > 0).map(|(count, kind)| format!("{count} {kind}, "));
+    there.collect::<String>() + walk.lines().last().unwrap_or_default()
 }
 
 fn files(folder: &Path) -> Result<Vec<PathBuf>, String> {

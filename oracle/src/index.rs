@@ -1,5 +1,6 @@
-//! Document 01's trace index and listing, over the crate's `dlt_message`.
+//! Document 01's trace index and listing, over the crate's `dlt_message`, shown no byte behind the declared end.
 
+use crate::confined::declared_end;
 use crate::filter::{self, Filter};
 use crate::filtering::ProcessedDltFilterConfig;
 use crate::message::{bytes_before_pattern, places, STORAGE_HEADER};
@@ -18,28 +19,49 @@ pub struct Entry {
     kind: &'static str,
 }
 
-/// What the message rule says at one place of the trace.
+/// How far a message's arguments may reach.
+#[derive(Clone, Copy, PartialEq)]
+pub enum Reach {
+    /// To the declared end: the rule.
+    Declared,
+    /// As far as there are bytes, as in `dlt_message`: the rule of walks that know no overrun.
+    Further,
+}
+
+/// What a message is read by.
+#[derive(Clone, Copy)]
+pub struct Reader<'a> {
+    pub filter: Option<&'a ProcessedDltFilterConfig>,
+    pub reach: Reach,
+}
+
+/// What the reader says at one place of the trace.
 enum Step {
     Wait { need: usize },
     Take { skipped: usize, length: usize, kind: &'static str },
 }
 
-fn step(bytes: &[u8], filter: Option<&ProcessedDltFilterConfig>) -> Result<Step, String> {
-    match guarded(|| dlt_message(bytes, filter, true))? {
+/// Where it may reach to the declared end and all declared bytes are there, it never waits: lacking bytes are an overrun.
+fn step(bytes: &[u8], reader: Reader) -> Result<Step, String> {
+    let end = match reader.reach {
+        Reach::Declared => declared_end(bytes, true)?,
+        Reach::Further => None,
+    };
+    let bytes = end.map_or(bytes, |end| &bytes[..end]);
+    match guarded(|| dlt_message(bytes, reader.filter, true))? {
         Ok((_, ParsedMessage::Item(message))) => {
             let declared = usize::from(message.header.overall_length());
             expect(places(bytes, true)?.declared == declared, "the declared length")?;
             whole_message(bytes, "item")
         }
         Ok((rest, ParsedMessage::FilteredOut(_))) => {
-            let places = places(bytes, true)?;
-            let end = places.skipped + STORAGE_HEADER + places.declared;
-            expect(used(bytes, rest)? == end, "a filtered message's end")?;
+            expect(used(bytes, rest)? == places(bytes, true)?.end(), "a filtered message's end")?;
             whole_message(bytes, "filtered")
         }
         Ok((_, ParsedMessage::Invalid)) => Err("oracle: the crate answered Invalid".to_string()),
         Err(DltParseError::ParsingHickup(_)) => only_pattern(bytes, "hickup"),
         Err(DltParseError::Unrecoverable(_)) => only_pattern(bytes, "unrecoverable"),
+        Err(DltParseError::IncompleteParse { .. }) if end.is_some() => whole_message(bytes, "overrun"),
         Err(DltParseError::IncompleteParse { needed }) => Ok(Step::Wait { need: needed.map_or(0, |n| n.get()) }),
     }
 }
@@ -71,13 +93,7 @@ pub struct Walk {
 /// No limit.
 pub const NONE: u64 = u64::MAX;
 
-fn walk(
-    bytes: &[u8],
-    resume: u64,
-    room: usize,
-    limit: u64,
-    filter: Option<&ProcessedDltFilterConfig>,
-) -> Result<Walk, String> {
+fn walk(bytes: &[u8], resume: u64, room: usize, limit: u64, reader: Reader) -> Result<Walk, String> {
     let mut entries = Vec::new();
     let mut at = 0;
     loop {
@@ -85,7 +101,7 @@ fn walk(
         if entries.len() as u64 == limit {
             return Ok(Walk { entries, resume: position, end: End::Paused });
         }
-        match step(&bytes[at..], filter)? {
+        match step(&bytes[at..], reader)? {
             Step::Wait { need } => return Ok(Walk { entries, resume: position, end: End::Waits(need) }),
             Step::Take { .. } if entries.len() == room => {
                 return Ok(Walk { entries, resume: position, end: End::Full })
@@ -112,25 +128,22 @@ fn call(table: usize, state: State, filter: &[u8], bytes: &[u8], limit: u64) -> 
     match filter::read(filter) {
         Filter::Bad => Ok((1, state, None)),
         Filter::Retired => Ok((13, state, None)),
-        Filter::Good(filter) => call_under(filter.as_ref(), table, state, bytes, limit),
+        Filter::Good(filter) => {
+            let reader = Reader { filter: filter.as_ref(), reach: Reach::Declared };
+            call_by(reader, table, state, bytes, limit)
+        }
     }
 }
 
-/// The same under a filter of the crate.
-pub fn call_under(
-    filter: Option<&ProcessedDltFilterConfig>,
-    table: usize,
-    state: State,
-    bytes: &[u8],
-    limit: u64,
-) -> Result<Called, String> {
+/// The same by a reader.
+pub fn call_by(reader: Reader, table: usize, state: State, bytes: &[u8], limit: u64) -> Result<Called, String> {
     if state.used > table as u64 {
         return Ok((5, state, None));
     }
     if u128::from(state.resume) + bytes.len() as u128 > LAST_POSITION {
         return Ok((6, state, None));
     }
-    let walk = walk(bytes, state.resume, table - state.used as usize, limit, filter)?;
+    let walk = walk(bytes, state.resume, table - state.used as usize, limit, reader)?;
     let number = match walk.end {
         End::Waits(_) => 0,
         End::Full => 7,
@@ -163,16 +176,16 @@ pub fn listing(bytes: &[u8], ends: &str) -> Line {
     if bytes.len() > LISTED_BYTES {
         return Ok("refused: over 65536".to_string());
     }
-    lines_of_walk(bytes, LISTED_ENTRIES, ends)
+    lines_of_walk(bytes, LISTED_ENTRIES, Reach::Declared, ends)
 }
 
 /// The same lines for a trace of any length, with a table that is never full.
-pub fn whole_walk(bytes: &[u8]) -> Line {
-    lines_of_walk(bytes, usize::MAX, "\n")
+pub fn whole_walk(bytes: &[u8], reach: Reach) -> Line {
+    lines_of_walk(bytes, usize::MAX, reach, "\n")
 }
 
-fn lines_of_walk(bytes: &[u8], room: usize, ends: &str) -> Line {
-    let walk = walk(bytes, 0, room, NONE, None)?;
+fn lines_of_walk(bytes: &[u8], room: usize, reach: Reach, ends: &str) -> Line {
+    let walk = walk(bytes, 0, room, NONE, Reader { filter: None, reach })?;
     let mut lines = vec!["start skipped length kind".to_string()];
     for entry in &walk.entries {
         lines.push(format!("{} {} {} {}", entry.start, entry.skipped, entry.length, entry.kind));

@@ -13,6 +13,7 @@ pub mod answer;
 mod arguments;
 pub mod check;
 pub mod compare;
+pub mod confined;
 mod filter;
 pub mod index;
 pub mod list;

@@ -38,8 +38,15 @@ pub struct Places {
     pub skipped: usize,
     standard: usize,
     extended: usize,
-    payload: usize,
+    pub payload: usize,
     pub declared: usize,
+}
+
+impl Places {
+    /// Where the message ends by its declared length.
+    pub fn end(&self) -> usize {
+        self.standard + self.declared
+    }
 }
 
 /// Only asked of messages whose headers the crate could read.
@@ -64,7 +71,7 @@ pub fn bytes_before_pattern(bytes: &[u8]) -> Result<usize, String> {
 
 fn filtered(bytes: &[u8], used: usize, storage: bool, length: usize) -> Line {
     let places = places(bytes, storage)?;
-    expect(used == places.standard + places.declared, "a filtered message's end")?;
+    expect(used == places.end(), "a filtered message's end")?;
     expect(used == places.payload + length, "a filtered message's payload")?;
     Ok(format!("0 filtered used={used} plen={length}"))
 }
@@ -145,11 +152,11 @@ fn payload(bytes: &[u8], used: usize, places: &Places, message: &Message, why: b
         PayloadContent::NetworkTrace(slices) => network_trace(bytes, big, places.payload, count, slices)?,
         PayloadContent::NonVerbose(id, rest) => {
             let at = places.payload + 4;
-            (places.standard + places.declared, format!("N({id}){}", text(bytes, at, rest)?))
+            (places.end(), format!("N({id}){}", text(bytes, at, rest)?))
         }
         PayloadContent::ControlMsg(id, rest) => {
             let at = places.payload + 1;
-            (places.standard + places.declared, format!("C({}){}", id.value(), text(bytes, at, rest)?))
+            (places.end(), format!("C({}){}", id.value(), text(bytes, at, rest)?))
         }
     };
     expect(end == used, "the payload's end")?;

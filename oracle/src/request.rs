@@ -9,6 +9,7 @@ const LARGEST_TABLE: u64 = 4096;
 
 pub enum Request {
     Message { storage: bool, filter: Vec<u8>, bytes: Vec<u8> },
+    Confined { storage: bool, filter: Vec<u8>, bytes: Vec<u8> },
     ZeroTerminated { size: u64, bytes: Vec<u8> },
     Skip { bytes: Vec<u8> },
     Consume { bytes: Vec<u8> },
@@ -46,6 +47,9 @@ fn read_words(words: &[&[u8]]) -> Option<Request> {
     match *words {
         [b"msg", storage, filter, bytes] => {
             Some(Request::Message { storage: bit(storage)?, filter: hex(filter)?, bytes: hex(bytes)? })
+        }
+        [b"conf", storage, filter, bytes] => {
+            Some(Request::Confined { storage: bit(storage)?, filter: hex(filter)?, bytes: hex(bytes)? })
         }
         [b"zts", size, bytes] => Some(Request::ZeroTerminated { size: decimal(size)?, bytes: hex(bytes)? }),
         [b"skip", bytes] => Some(Request::Skip { bytes: hex(bytes)? }),

@@ -144,6 +144,7 @@ enum Input {
     Many,
     Long,
     Past,
+    Overruns,
 }
 
 /// Which ids a filter has: how many to a set, and what the application ids begin with.
@@ -162,7 +163,7 @@ const fn row(name: &'static str, call: Call, input: Input, sets: Sets) -> Row {
 
 const FOUR: Sets = Some((4, "APP"));
 
-const ROWS: [Row; 25] = [
+const ROWS: [Row; 26] = [
     row("dlt_message, and every argument by its cursor, mixed trace", Call::Arguments, Input::Mixed(Ids::Letters), None),
     row("the same, the corpus", Call::Arguments, Input::Corpus, None),
     row("the same, 255 arguments each", Call::Arguments, Input::Many, None),
@@ -188,6 +189,7 @@ const ROWS: [Row; 25] = [
     row("dlt_message, counted arguments far past the declared end", Call::Messages, Input::Past, None),
     row("dlt_message, random bytes", Call::Messages, Input::Random, None),
     row("dlt_message, zeros", Call::Messages, Input::Zeros, None),
+    row("index, counted arguments far past the declared end", Call::Indexed, Input::Overruns, None),
 ];
 
 impl Row {
@@ -207,8 +209,14 @@ impl Row {
             Input::Many => traces::repeated(SIZE, &traces::many_arguments()),
             Input::Long => traces::repeated(SIZE, &traces::long_string()),
             Input::Past => traces::past_the_end(SIZE / 16),
+            Input::Overruns => traces::overruns(SIZE),
         };
         Some((bytes, self.sets.map_or(Vec::new(), |(n, app)| traces::filter_bytes(&traces::filter_sets(n, app, ids)))))
+    }
+
+    /// Whether archives may count otherwise: one that knows no overrun reads on past the declared end, takes other entries and waits before the trace's end.
+    fn counts_may_differ(&self) -> bool {
+        matches!(self.input, Input::Overruns)
     }
 
     fn run(&self, archive: &Archive, bytes: &[u8], filter: &[u8], table: &mut [u64]) -> u64 {
@@ -222,21 +230,25 @@ impl Row {
     }
 }
 
-/// The least time of each object in milliseconds, all in turn, each of them first as often as the others. They must count the same.
-fn in_turn(row: &Row, objects: &[Archive], rounds: usize, table: &mut [u64]) -> Option<Vec<f64>> {
+/// The least time of each object in milliseconds, all in turn, each of them first as often as the others; and what the archives count, which must be the
+/// same where it may not differ.
+fn in_turn(row: &Row, objects: &[Archive], rounds: usize, table: &mut [u64]) -> Option<(Vec<f64>, [u64; 2])> {
     let (bytes, filter) = row.made()?;
     let mut best = vec![Duration::MAX; objects.len()];
-    let mut counted = None;
+    let mut counted = [None; 2];
     for round in 0..rounds {
         for turn in 0..objects.len() {
             let which = (round + turn) % objects.len();
             let begun = Instant::now();
             let count = black_box(row.run(&objects[which], &bytes, &filter, table));
             best[which] = best[which].min(begun.elapsed());
-            assert_eq!(*counted.get_or_insert(count), count, "the archives don't agree");
+            let archive = 2 * which / objects.len();
+            assert_eq!(*counted[archive].get_or_insert(count), count, "an archive doesn't agree with itself");
         }
     }
-    Some(best.iter().map(|time| time.as_secs_f64() * 1e3).collect())
+    let counted = counted.map(Option::unwrap_or_default);
+    assert!(counted[0] == counted[1] || row.counts_may_differ(), "the archives don't agree: {counted:?}");
+    Some((best.iter().map(|time| time.as_secs_f64() * 1e3).collect(), counted))
 }
 
 /// Least, median and most.
@@ -252,10 +264,11 @@ fn compared(rounds: usize, objects: &[Archive], table: &mut [u64]) {
     let wanted: Vec<usize> = wanted.split_whitespace().map(number).collect();
     println!("| Row | Before: median (least to most) | After | Median after to before | Most to least before |\n|---|---|---|---|---|");
     for (_, row) in ROWS.iter().enumerate().filter(|(i, _)| wanted.is_empty() || wanted.contains(i)) {
-        let Some(mut times) = in_turn(row, objects, rounds, table) else { continue };
+        let Some((mut times, [counted, now])) = in_turn(row, objects, rounds, table) else { continue };
         let (before, after) = times.split_at_mut(objects.len() / 2);
         let ([b0, b, b1], [a0, a, a1]) = (spread(before), spread(after));
-        println!("| {} | {b:.2} ms ({b0:.2} to {b1:.2}) | {a:.2} ms ({a0:.2} to {a1:.2}) | {:.3} | {:.3} |", row.name, a / b, b1 / b0);
+        let counts = if counted == now { String::new() } else { format!(" ({counted} before, {now} after)") };
+        println!("| {}{counts} | {b:.2} ms ({b0:.2} to {b1:.2}) | {a:.2} ms ({a0:.2} to {a1:.2}) | {:.3} | {:.3} |", row.name, a / b, b1 / b0);
     }
 }
 

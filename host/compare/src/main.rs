@@ -1,13 +1,14 @@
 //! compare KIND COUNT SEED [THREADS]: makes requests by seed as `oracle/compare` does, asks the crate and the archive in this process, and counts the
-//! answers that differ. KIND is msg, consume, fwd, args, index, limited (index with a limit), net (msg of
-//! network traces), why-msg, why-args (msg and args with why each text ended, over all numbers of a message and an argument) or all; or ids, which all leaves
-//! out: msg with 1,901,020 identifiers of every make, and then random ones; or why-ids, the same with why.
+//! answers that differ. KIND is msg, consume, fwd, args, index, limited (index with a limit), overrun (index over messages whose arguments run past their
+//! declared end), net (msg of network traces), why-msg, why-args (msg and args with why each text ended, over all numbers of a message and an argument) or
+//! all; or ids, which all leaves out: msg with 1,901,020 identifiers of every make, and then random ones; or why-ids, the same with why. The archive has no
+//! call for conf: `oracle/compare conf` asks replay.
 //! With threads, each has a seed of its own: SEED, SEED + 1, ..
 
 use std::panic::catch_unwind;
 use std::time::Instant;
 
-const KINDS: [&str; 9] = ["msg", "consume", "fwd", "args", "index", "limited", "net", "why-msg", "why-args"];
+const KINDS: [&str; 10] = ["msg", "consume", "fwd", "args", "index", "limited", "overrun", "net", "why-msg", "why-args"];
 
 struct Count {
     asked: u64,

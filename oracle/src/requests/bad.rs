@@ -7,7 +7,7 @@ pub const TINY: &[Section] = &[written];
 pub const SECTIONS: &[Section] = &[written, spoilt_examples];
 
 /// Lines at the edges of the rule in README.md.
-const WRITTEN: [&str; 95] = [
+const WRITTEN: [&str; 107] = [
     "",
     " ",
     "-",
@@ -49,6 +49,18 @@ const WRITTEN: [&str; 95] = [
     "msg - - 20",
     "msg 0 20",
     "msg 1 0 20",
+    "conf",
+    "conf 0 -",
+    "conf 0 - ",
+    "conf 2 - 20",
+    "conf - - 20",
+    "conf 0 20",
+    "conf 0 - 2",
+    "conf 1 - 20 0",
+    "conf 1 -  20",
+    "CONF 0 - 20",
+    "confs 0 - 20",
+    "why conf 0 - 20",
     "skip",
     "skip -",
     "skip - -",
@@ -115,6 +127,7 @@ fn written(_: &mut Rng, emit: Emit) {
 fn spoilt_examples(_: &mut Rng, emit: Emit) {
     for line in [
         "msg 0 - 20070003",
+        "conf 0 - 20070003",
         "zts 2 c328",
         "skip 44",
         "consume 44",

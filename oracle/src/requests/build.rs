@@ -73,6 +73,9 @@ pub const GOOD_KINDS: [u32; 19] = [
     0x1044,
 ];
 
+/// Words that don't pass: no kind, every bit, two kinds, bit 8, and lengths that don't fit.
+pub const BAD_WORDS: [u32; 6] = [0, 0xffff_ffff, 0x30, 0x110, 0x20, 0x81];
+
 const VARIABLE_INFO: u32 = 1 << 11;
 const FIXED_POINT: u32 = 1 << 12;
 
@@ -284,6 +287,49 @@ pub fn message(rng: &mut Rng) -> Vec<u8> {
     message
 }
 
+/// Message infos of verbose messages: logs, network traces, control messages, an application trace and an unknown type.
+pub const VERBOSE_INFOS: [u8; 7] = [0x41, 0x61, 0x15, 0x75, 0x17, 0x27, 0x09];
+
+/// What a message counts as an argument: mostly a sound one; else a text that is shorter than its size, or a word that
+/// doesn't pass.
+fn counted_argument(rng: &mut Rng, big: bool) -> Vec<u8> {
+    match rng.below(8) {
+        0 => number(u128::from(rng.pick(&BAD_WORDS)), 4, big),
+        1 | 2 => {
+            let content = text_bytes(rng, 12);
+            let size = if rng.one_in(2) { 65_535 } else { content.len() + rng.between(1, 9) };
+            let word = rng.pick(&[0x200, 0x400, 0x8200]);
+            [number(word, 4, big), number(size as u128, 2, big), content].concat()
+        }
+        _ => {
+            let word = random_word(rng);
+            argument(rng, word, big)
+        }
+    }
+}
+
+/// A verbose message that mostly declares fewer bytes than its arguments have, or counts more arguments than there are.
+/// What it doesn't declare stands behind it half of the time.
+pub fn overrunning(rng: &mut Rng) -> Vec<u8> {
+    let flags = rng.byte() | 1;
+    let info = if rng.one_in(4) { rng.byte() | 1 } else { rng.pick(&VERBOSE_INFOS) };
+    let arguments = rng.between(1, 3);
+    let mut payload: Vec<u8> = (0..arguments).flat_map(|_| counted_argument(rng, flags & 2 != 0)).collect();
+    if rng.one_in(8) {
+        payload.extend(rng.bytes(3));
+    }
+    let count = arguments + rng.pick(&[0, 0, 0, 1, 2, 200]);
+    let declared = match rng.below(4) {
+        0 => payload.len(),
+        1 => payload.len() - 1,
+        _ => rng.below(payload.len() + 1),
+    };
+    let mut message = headers(rng, flags, info, count as u8, declared);
+    let there = if rng.one_in(2) { declared } else { payload.len() };
+    message.extend(&payload[..there]);
+    message
+}
+
 /// A storage header with any time and identifier.
 pub fn storage_header(rng: &mut Rng) -> Vec<u8> {
     let mut bytes = PATTERN.to_vec();
@@ -343,11 +389,11 @@ pub fn id_set(rng: &mut Rng) -> Vec<u8> {
     chosen.flat_map(|place| FILTER_IDS[place]).collect()
 }
 
-/// A filter that mostly keeps the rules. Of the good ones one in sixteen has counts, unless they keep all that are drawn.
+/// A filter that mostly keeps the rules. Of the good ones one in sixteen has counts, unless it is for the list.
 pub fn filter(rng: &mut Rng) -> Vec<u8> {
     let drawn = old_filter(rng);
     // counts are drawn for five in nine
-    if rng.keeps_counts || rng.one_in(9) {
+    if rng.is_listing || rng.one_in(9) {
         return drawn;
     }
     match Old::read(&drawn) {

@@ -1,35 +1,37 @@
 //! Requests for document 01's index call, without a limit and with one.
 
-use super::build::{damage, filter, filter_or_none, junk, stored_message, PATTERN};
+use super::build::{damage, filter, filter_or_none, junk, overrunning, storage_header, stored_message, PATTERN};
 use super::random::Rng;
 use super::{hex, Emit, Section};
 use crate::filter::Old;
-use crate::index::{call_under, State, NONE};
+use crate::index::{call_by, Reach, Reader, State, NONE};
 
 pub const TINY: &[Section] = &[];
 pub const SECTIONS: &[Section] = &[tables, cuts, carried_on, refusals, long_traces];
 pub const LIMITED: &[Section] = &[limits, paused_and_carried_on, limited_refusals, long_limits];
 
 /// A filter with a count.
-const RETIRED: [u8; 11] = [5, 0, 8, 0, 0, 0, 0, 0, 0, 0, 0];
+pub const RETIRED: [u8; 11] = [5, 0, 8, 0, 0, 0, 0, 0, 0, 0, 0];
 
-const FRESH: State = State { resume: 0, used: 0 };
+pub const FRESH: State = State { resume: 0, used: 0 };
 
-fn request(table: usize, state: State, filter: &[u8], bytes: &[u8]) -> String {
+pub fn request(table: usize, state: State, filter: &[u8], bytes: &[u8]) -> String {
     format!("index {table} {} {} {} {}", state.resume, state.used, hex(filter), hex(bytes))
 }
 
-fn limited(table: usize, state: State, filter: &[u8], bytes: &[u8], limit: u64) -> String {
+pub fn limited(table: usize, state: State, filter: &[u8], bytes: &[u8], limit: u64) -> String {
     format!("{} {limit}", request(table, state, filter, bytes))
 }
 
-/// A trace of messages, damaged messages, bare patterns and junk.
+/// A trace of messages, damaged messages, bare patterns and junk. Half of the messages are made to overrun, but for the
+/// list.
 fn trace(rng: &mut Rng, pieces: usize) -> Vec<u8> {
     let mut bytes = Vec::new();
     for _ in 0..rng.below(pieces + 1) {
         let mut piece = match rng.below(8) {
             0 => junk(rng, 20),
             1 => PATTERN.to_vec(),
+            _ if !rng.is_listing && rng.one_in(2) => [storage_header(rng), overrunning(rng)].concat(),
             _ => stored_message(rng),
         };
         if rng.one_in(3) {
@@ -71,12 +73,16 @@ fn carried_on(rng: &mut Rng, emit: Emit) {
     }
 }
 
-/// The state that a call leaves, under a filter with its counts, if it has any.
-fn carried(table: usize, state: State, filter: &[u8], bytes: &[u8], limit: u64) -> State {
+/// The state that a call leaves, under a filter with its counts, if it has any. In the list it is that of a walk without
+/// overruns.
+fn carried(rng: &Rng, table: usize, state: State, filter: &[u8], bytes: &[u8], limit: u64) -> State {
     let Some(old) = Old::read(filter) else {
         return state;
     };
-    call_under(old.with_counts().as_ref(), table, state, bytes, limit).map_or(state, |(_, after, _)| after)
+    let filter = old.with_counts();
+    let reach = if rng.is_listing { Reach::Further } else { Reach::Declared };
+    let reader = Reader { filter: filter.as_ref(), reach };
+    call_by(reader, table, state, bytes, limit).map_or(state, |(_, after, _)| after)
 }
 
 fn carry_on(rng: &mut Rng) -> String {
@@ -87,7 +93,7 @@ fn carry_on(rng: &mut Rng) -> String {
     let mut end = 0;
     for _ in 0..rng.below(4) {
         end += rng.below(trace.len() - end + 1);
-        state = carried(table, state, &filter, &trace[state.resume as usize..end], NONE);
+        state = carried(rng, table, state, &filter, &trace[state.resume as usize..end], NONE);
     }
     end += rng.below(trace.len() - end + 1);
     request(table, state, &filter, &trace[state.resume as usize..end])
@@ -177,7 +183,8 @@ fn pause_and_carry_on(rng: &mut Rng) -> String {
     let mut end = 0;
     for _ in 0..rng.below(4) {
         end += rng.below(trace.len() - end + 1);
-        state = carried(table, state, &filter, &trace[state.resume as usize..end], some_limit(rng));
+        let limit = some_limit(rng);
+        state = carried(rng, table, state, &filter, &trace[state.resume as usize..end], limit);
     }
     end += rng.below(trace.len() - end + 1);
     limited(table, state, &filter, &trace[state.resume as usize..end], some_limit(rng))

@@ -6,6 +6,7 @@
 
 mod bad;
 pub mod build;
+mod confined;
 mod fields;
 mod identifiers;
 mod index;
@@ -35,8 +36,12 @@ pub struct Kind {
 /// The kind of old filters.
 const RETIRE: &str = "retire";
 
+/// The kinds of the confined reading, and of traces with messages that overrun.
+const CONF: &str = "conf";
+const OVERRUN: &str = "overrun";
+
 /// Every kind but those of `why`, in the order in which `all` goes through them.
-pub const KINDS: [Kind; 15] = [
+pub const KINDS: [Kind; 17] = [
     Kind { name: "zts", tiny: strings::TINY, sections: strings::SECTIONS, random: strings::random },
     Kind { name: "fwd", tiny: fields::FORWARD_TINY, sections: fields::FORWARD, random: fields::random_forward },
     Kind { name: "skip", tiny: fields::SKIP_TINY, sections: fields::SKIP, random: fields::random_skip },
@@ -55,6 +60,8 @@ pub const KINDS: [Kind; 15] = [
     Kind { name: "limited", tiny: index::TINY, sections: index::LIMITED, random: index::random_limited },
     Kind { name: "net", tiny: messages::TRACES_TINY, sections: messages::TRACES, random: messages::random_trace },
     Kind { name: "ids", tiny: identifiers::TINY, sections: identifiers::SECTIONS, random: identifiers::random },
+    Kind { name: CONF, tiny: confined::TINY, sections: confined::SECTIONS, random: confined::random },
+    Kind { name: OVERRUN, tiny: confined::WALKED_TINY, sections: confined::WALKED, random: confined::random_walked },
     Kind { name: RETIRE, tiny: retire::TINY, sections: retire::SECTIONS, random: retire::random },
     Kind { name: "bad", tiny: bad::TINY, sections: bad::SECTIONS, random: bad::random },
 ];
@@ -91,6 +98,10 @@ impl Kind {
         self.name == RETIRE
     }
 
+    pub fn is_confined(&self) -> bool {
+        self.name == CONF || self.name == OVERRUN
+    }
+
     /// Makes `count` requests: an even sample of the fixed part if it is larger
     /// than that, else all of it and random ones. With no count: the fixed part and some.
     pub fn make(&self, count: Option<u64>, seed: u64, emit: Emit) {
@@ -109,14 +120,14 @@ impl Kind {
     }
 
     /// A short list: the tiny sections, then `count` more, the same number from
-    /// each section and of random ones. Filters keep all their counts.
+    /// each section and of random ones.
     pub fn make_short(&self, count: u64, seed: u64, emit: Emit) {
         for section in self.tiny {
-            section(&mut Rng::new(seed).keeping_counts(), emit);
+            section(&mut self.for_list(Rng::new(seed)), emit);
         }
         let share = count / (self.sections.len() as u64 + 1);
         for section in 0..self.sections.len() {
-            let rng = || self.rng(section, seed).keeping_counts();
+            let rng = || self.for_list(self.rng(section, seed));
             let size = self.section_size(section, rng());
             let mut number = 0;
             self.run(section, rng(), &mut |line| {
@@ -126,7 +137,7 @@ impl Kind {
                 number += 1;
             });
         }
-        self.make_random(share, self.random_rng(seed).keeping_counts(), emit);
+        self.make_random(share, self.for_list(self.random_rng(seed)), emit);
     }
 
     fn make_random(&self, count: u64, mut rng: Rng, emit: Emit) {
@@ -147,6 +158,15 @@ impl Kind {
 
     fn fixed_size(&self, seed: u64) -> u64 {
         (0..self.sections.len()).map(|section| self.section_size(section, self.rng(section, seed))).sum()
+    }
+
+    /// The kinds of the confined reading came last: nothing of theirs has to stay as it was.
+    fn for_list(&self, rng: Rng) -> Rng {
+        if self.is_confined() {
+            rng
+        } else {
+            rng.listing()
+        }
     }
 
     fn random_rng(&self, seed: u64) -> Rng {

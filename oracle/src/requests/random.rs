@@ -2,17 +2,18 @@
 
 pub struct Rng {
     state: u64,
-    /// Filters keep all the counts that are drawn for them.
-    pub keeps_counts: bool,
+    /// What the fixed list has had so far stays in it: filters keep all the counts that are drawn for them, no message of a
+    /// trace is made to overrun, and the states of a trace are those of a walk without overruns.
+    pub is_listing: bool,
 }
 
 impl Rng {
     pub fn new(seed: u64) -> Rng {
-        Rng { state: seed, keeps_counts: false }
+        Rng { state: seed, is_listing: false }
     }
 
-    pub fn keeping_counts(self) -> Rng {
-        Rng { keeps_counts: true, ..self }
+    pub fn listing(self) -> Rng {
+        Rng { is_listing: true, ..self }
     }
 
     // an iterator's would have an end

@@ -1,7 +1,8 @@
 //! worth COUNT SEED [THREADS]: what a need is worth. Messages are cut behind their headers, where the need is what the declared length says is missing, and
 //! asked of the crate and of the archive: cut; with all bytes of the need but one; and with all of them, which are random. The first two must wait. The third
-//! must be decided, if the message isn't verbose or the filter drops it. The index is asked the same of messages with a storage header. First comes a fixed
-//! part with every message info. No answer may be Hickup 3. With threads, each has a seed of its own: SEED, SEED + 1, ..
+//! must be decided, if the message isn't verbose or the filter drops it. The index is asked the same of messages with a storage header, and there
+//! the third must be decided always: where the message waits on, by an overrun. First comes a fixed part with every message info. No answer may be Hickup 3. With
+//! threads, each has a seed of its own: SEED, SEED + 1, ..
 //! worth recordings DIR: the same of the index over each recording below DIR, cut at every byte; the bytes of the need are the recording's own.
 //! worth --self-test: false answers, each of which the judges must catch.
 
@@ -48,7 +49,7 @@ struct Tally {
     verbose: u64,
     wait_on: u64,
     walks_decided: u64,
-    walks_wait_on: u64,
+    overruns: u64,
 }
 
 impl Tally {
@@ -66,7 +67,7 @@ impl Tally {
         self.verbose += other.verbose;
         self.wait_on += other.wait_on;
         self.walks_decided += other.walks_decided;
-        self.walks_wait_on += other.walks_wait_on;
+        self.overruns += other.overruns;
     }
 
     fn fails(&mut self, text: impl FnOnce() -> String) {
@@ -85,8 +86,8 @@ impl Tally {
         }
         self.wait_on += waits;
         if storage {
-            self.walks_decided += 1 - waits;
-            self.walks_wait_on += waits;
+            self.walks_decided += 1;
+            self.overruns += waits;
         }
     }
 
@@ -259,11 +260,11 @@ fn print_sections(fixed: &Tally, random: &Tally, met: &Met) {
     println!("random: {} cut messages, {infos} message infos: {}", random.cut, asked(random));
     let filter = |kind: usize| format!("{} {} of {}", FILTERS[kind], met.dropped[kind], met.given[kind]);
     println!("dropped by filter: {}", (0..FILTERS.len()).map(filter).collect::<Vec<_>>().join(", "));
-    let (walks, decided, wait_on) = (fixed.walks + random.walks, fixed.walks_decided + random.walks_decided, fixed.walks_wait_on + random.walks_wait_on);
+    let (walks, decided, overruns) = (fixed.walks + random.walks, fixed.walks_decided + random.walks_decided, fixed.overruns + random.overruns);
     println!(
-        "index: of {walks} cut traces {decided} wait with the message's need, and with one byte fewer, and take its entry with all of it; {wait_on} wait on as \
-         the message does; {} fail",
-        walks - decided - wait_on,
+        "index: of {walks} cut traces {decided} wait with the message's need, and with one byte fewer, and take its entry with all of it, {overruns} of them an \
+         overrun where the message waits on; {} fail",
+        walks - decided,
     );
 }
 

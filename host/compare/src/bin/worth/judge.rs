@@ -123,8 +123,8 @@ pub struct Walks {
     pub entry: String,
 }
 
-/// The index, by the message's verdict. A message passed by its declared length leaves nothing; where only the pattern is passed, what is left could hold
-/// another pattern.
+/// The index, by the message's verdict over its declared bytes: if it waits on, its arguments lack bytes there, and the index doesn't wait. A message passed
+/// by its declared length leaves nothing; where only the pattern is passed, what is left could hold another pattern.
 pub fn judge_walks(stand: &Stand, verdict: Verdict, walks: &Walks) -> Result<(), &'static str> {
     let waits = |taken: usize, need: usize| Indexed { state: stand.state, taken, end: End::Waits(need as u64) };
     if walks.cut != waits(stand.state.used, stand.need) {
@@ -135,8 +135,7 @@ pub fn judge_walks(stand: &Stand, verdict: Verdict, walks: &Walks) -> Result<(),
     }
     let message = STORAGE_HEADER + stand.declared;
     let (length, kind) = match verdict {
-        Verdict::Waits(need) if walks.whole == waits(0, need) => return Ok(()),
-        Verdict::Waits(_) => return Err("the message waits on, and the index doesn't"),
+        Verdict::Waits(_) => (message, "overrun"),
         Verdict::Item(_) => (message, "item"),
         Verdict::Filtered(_) => (message, "filtered"),
         Verdict::Hickup(_) => (PATTERN, "hickup"),

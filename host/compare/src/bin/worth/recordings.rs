@@ -20,7 +20,6 @@ struct Waits {
 struct Count {
     cuts: u64,
     headers: u64,
-    beyond: u64,
     plain: Waits,
     verbose: Waits,
     early: u64,
@@ -60,8 +59,7 @@ fn wait(bytes: &[u8], state: State, end: usize, need: usize, count: &mut Count) 
     };
     let shortfall = (standard + heads.declared).saturating_sub(end);
     if shortfall == 0 {
-        count.beyond += 1;
-        return if heads.verbose { Ok(()) } else { Err("a message that isn't verbose waits with all its bytes") };
+        return Err("a message waits with all its declared bytes");
     }
     let waits = if heads.verbose { &mut count.verbose } else { &mut count.plain };
     waits.all += 1;
@@ -76,7 +74,7 @@ fn wait(bytes: &[u8], state: State, end: usize, need: usize, count: &mut Count) 
     waits.taken += taken as u64;
     count.early += early as u64;
     match (early, taken) {
-        (0, 0) if !heads.verbose => Err("no entry is taken with all bytes of the need"),
+        (0, 0) => Err("no entry is taken with all bytes of the need"),
         (0, _) => Ok(()),
         _ => Err("an entry is taken with one byte fewer than the need"),
     }
@@ -106,10 +104,9 @@ fn cut_everywhere(name: &str, bytes: &[u8], count: &mut Count) -> Result<(), Str
 fn print(files: usize, count: &Count) {
     let (plain, verbose) = (&count.plain, &count.verbose);
     println!(
-        "waits: {} before the headers are whole, {} for the declared shortfall, {} beyond the declared end of a verbose message",
+        "waits: {} before the headers are whole, {} for the declared shortfall",
         count.headers,
-        plain.all + verbose.all,
-        count.beyond
+        plain.all + verbose.all
     );
     println!(
         "verbose: {} waits for the shortfall, {} with so many bytes to come, of which {} take an entry with them",

@@ -86,6 +86,8 @@ fn false_walks() -> Vec<bool> {
     for (name, verdict) in [("of Unrecoverable", Verdict::Unrecoverable), ("of a message that waits on", Verdict::Waits(1))] {
         caught.push(told(&format!("the index, an item's entry {name}"), judge_walks(&stand, verdict, &walks).err()));
     }
+    let waiting = Walks { whole: walks.fewer, ..walks };
+    caught.push(told("the index, which waits on as the message does", judge_walks(&stand, Verdict::Waits(1), &waiting).err()));
     caught
 }
 
@@ -93,7 +95,9 @@ fn false_walks() -> Vec<bool> {
 pub fn self_test() -> bool {
     let (stand, walks) = true_walks();
     let due = Due { need: 3, verbose: false, end: 8 };
-    let pass = judge(&due, &answers(0, TRUE[0], TRUE[0])) == Ok(Verdict::Item(8)) && judge_walks(&stand, Verdict::Item(24), &walks) == Ok(());
+    let overrun = Walks { entry: "25 1 24 overrun".to_string(), ..walks.clone() };
+    let walks_pass = judge_walks(&stand, Verdict::Item(24), &walks).and(judge_walks(&stand, Verdict::Waits(1), &overrun));
+    let pass = judge(&due, &answers(0, TRUE[0], TRUE[0])) == Ok(Verdict::Item(8)) && walks_pass == Ok(());
     let caught = [false_answers(), false_walks()].concat();
     let missed = caught.iter().filter(|caught| !**caught).count();
     println!("{} false answers, {missed} not caught; the true ones {}", caught.len(), if pass { "pass" } else { "fail" });
