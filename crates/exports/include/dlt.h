@@ -14,8 +14,9 @@
 #include <stdint.h>
 
 /* The number of this interface: it goes up when a size, a place, an answer or a call here changes. 2: texts say why they ended; before it a message had 33
-   numbers and an argument 23. 3: a filter with a count is answered DLT_RETIRED_TAG; before it such a filter was read. An archive tells its sizes itself:
-   dlt_message and dlt_argument, asked with out_len 0, answer DLT_SHORT_OUT with them. */
+   numbers and an argument 23. 3: a filter with a count is answered DLT_RETIRED_TAG; before it such a filter was read. 4: an entry may be an overrun; before it
+   the index read arguments past the declared end. An archive tells its sizes itself: dlt_message and dlt_argument, asked with out_len 0, answer
+   DLT_SHORT_OUT with them. */
 #define DLT_INTERFACE 4
 
 /* An answer's number. With DLT_INCOMPLETE `value` is the need (0: unknown): of dlt_message fewer bytes never help, and exactly so many decide it if the
@@ -161,11 +162,14 @@ typedef struct {
    A fresh state is 0 and 0. After a call the bytes before the new `at` are the caller's; those from there on must come again, unchanged, with what was
    added at the end. After `n` entries the call stops without looking further, with DLT_PAUSED; n of 0 does nothing but check; SIZE_MAX is no limit.
    Calls with n above 0, each with the bytes from the new `at` on, until the answer isn't DLT_PAUSED, end as one call without a limit, and what they
-   took adds up. Between two of them is the place to cancel. */
+   took adds up. Between two of them is the place to cancel.
+   A message sees its declared bytes alone. Arguments that lack bytes there are an overrun: dlt_message of the bytes up to the entry's end answers
+   DLT_INCOMPLETE, and of more bytes may still give an item that borrows from its neighbour. Once a standard header is accepted the need is for declared bytes
+   alone; with all headers there exactly so many bring an entry. */
 #define DLT_ENTRY_SIZE 4
 #define DLT_ENTRY_START 0               /* of the pattern, counted from the trace's beginning */
 #define DLT_ENTRY_SKIPPED 1             /* bytes before it */
-#define DLT_ENTRY_LENGTH 2              /* 16 plus declared, or 4 */
+#define DLT_ENTRY_LENGTH 2              /* 16 plus declared, or 4 of a hickup and an unrecoverable one */
 #define DLT_ENTRY_KIND 3                /* 0 item, 1 filtered, 2 hickup, 3 unrecoverable, 4 overrun */
 dlt_index_answer dlt_index(const uint8_t *s, size_t s_len, const uint8_t *f, size_t f_len, size_t at, size_t used, uint64_t *table, size_t table_len, size_t n);
 
