@@ -32,6 +32,7 @@ unfoldable pub insideOf : ParsedMessage → ConfinedMessage
 insideOf (ParsedMessage.Item m) = ConfinedMessage.Item m
 insideOf (ParsedMessage.FilteredOut n) = ConfinedMessage.FilteredOut n
 
+-- what follows the headers, of whatever bytes it is shown
 unfoldable pub inside : Headers → Parser ConfinedMessage
 inside h = do
   m ← body h

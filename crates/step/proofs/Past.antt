@@ -12,7 +12,7 @@ use Rattle.wire.specs.Answer.Ans.{done, need, hickup, broken}
 use Rattle.wire.specs.Parser.{pick, follow, ret, here, choose, lacking, asking, having, fixed, _>>=_}
 use Rattle.wire.specs.Number.{number, numberOf}
 use Rattle.wire.specs.Lawful.{Kept, Waits}
-use Rattle.wire.proofs.Step.{step, then-done, then-need, fixed-need, ret-is, here-is}
+use Rattle.wire.proofs.Step.{step, then-done, ret-is, here-is}
 use Rattle.strings.specs.Text.{before0, textNeed, text, endedText, identified}
 use Rattle.mark.specs.First.{pattern, find}
 use Rattle.mark.specs.declared.Found.{Found}
@@ -29,6 +29,7 @@ use Rattle.storage.specs.Storage.{storage}
 use Rattle.filter.specs.declared.Filter.{Filter}
 use Rattle.filtering.specs.declared.OptExtended.{OptExtended}
 use Rattle.parse.specs.Message.{maybeExtended}
+use Rattle.parse.proofs.Nothing.{standard-of-nothing}
 use Rattle.worth.specs.Opening.{Opening, openingBehind, opening}
 use Rattle.confined.specs.Confined.{confinedMessage}
 use Rattle.confined.specs.Need.{Lacks}
@@ -66,17 +67,13 @@ worth-an-entry f filter s n l behind e read more enough =
     (_, len, i, q)
 
 -- ---- a standard header that is accepted
-standard-far : (s : List ℕ) (at : ℕ) → length s < at → standard s at ≡ need (lacking 1 s at)
-unfolding standard number
-standard-far s at h = then-need _ _ s at (fixed-need 1 _ s at (omega arith))
-
 -- stands within the bytes
 standard-near : (s : List ℕ) (at : ℕ) {h : StandardHeader} {b : ℕ} → standard s at ≡ done h b → at ≤ length s
 standard-near s at {h} {b} e = by (leb at (length s)) refl
   where
     by : (t : Bool) → leb at (length s) ≡ t → at ≤ length s
     by true q = leb-true _ _ q
-    by false q = no-need (sym (standard-far s at (leb-false _ _ q)) ∙ e)
+    by false q = let far : length s < at = leb-false _ _ q in no-need (sym (standard-of-nothing s at (omega arith)) ∙ e)
 
 maybe-there : (t : Bool) (s : List ℕ) (at : ℕ) → at + oneIf t * 10 ≤ length s → maybeExtended t s at ≡ done (extendedIf t s at) (at + oneIf t * 10)
 unfolding maybeExtended choose

@@ -1,5 +1,6 @@
 -- The message rule is steps 2 to 4 with steps 5 and 6 behind them; and steps 2 to 4 keep the laws of a rule.
 use Prim.Native.Nat.{ℕ}
+use native.Mathlib.Omega.{arith}
 use mathlib.Core.Path.{_≡_, refl, sym, _∙_}
 use mathlib.Core.Bool.{Bool, true, false}
 use mathlib.Core.List.{List}
@@ -81,7 +82,7 @@ behind-law o = search (laws, standard-law, maybeExtended-law) depth 20
 
 pub behind-nothing : (s : List ℕ) → openingBehind OptStored.Absent s (length s) ≡ need 1
 unfolding openingBehind
-behind-nothing s = then-done here _ s (length s) (here-is s (length s)) ∙ then-need standard _ s (length s) (standard-of-nothing s)
+behind-nothing s = then-done here _ s (length s) (here-is s (length s)) ∙ then-need standard _ s (length s) (standard-of-nothing s (length s) (omega arith))
 
 pub opening-law : (t : Bool) → Lawful (opening t)
 unfolding opening

@@ -15,7 +15,7 @@ use lib.Dec.{leb}
 use borrow.Author.Tests.{le-leb, lt-leb, leb-true, leb-false}
 use Rattle.wire.specs.Answer.{Ans, Parser, numbered}
 use Rattle.wire.specs.Answer.Ans.{done, need, hickup, broken}
-use Rattle.wire.specs.Parser.{lacking, _>>=_}
+use Rattle.wire.specs.Parser.{follow, lacking, _>>=_}
 use Rattle.wire.specs.Lawful.{Kept}
 use Rattle.wire.proofs.Step.{ends, then-done, then-need, then-hickup, then-broken}
 use Rattle.headertype.specs.HeaderType.{allHeaders, headerTypeByte, overallLength}
@@ -25,7 +25,6 @@ use Rattle.filtering.proofs.Stable.{filtered-same}
 use Rattle.payload.specs.Payload.{isVerbose}
 use Rattle.parse.specs.Message.{havingFrom, seen, headersOf, routed, body, message}
 use Rattle.parse.specs.declared.Headers.{Headers}
-use Rattle.parse.specs.declared.ParsedMessage.{ParsedMessage}
 use Rattle.facts.proofs.Laws.{message-honest}
 use Rattle.worth.specs.Opening.{Opening, opening}
 use Rattle.worth.specs.Need.{Short, ByLength, Whose, Decided}
@@ -108,17 +107,48 @@ module _ (t : Bool) (s : List ℕ) (l : Opening) (behind : ℕ) (read : opening 
           by (ByLength.quiet v) = quiet-decided heads s behind room v
           by (ByLength.dropped d) = dropped-decided heads s behind room d
 
+-- ---- the needs of steps 2 to 6 with any half k behind them, the payload or another
+then-first : {A B : Type 0} (p q : Parser A) (k : A → Parser B) (s : List ℕ) (at : ℕ) → p s at ≡ q s at → (p >>= k) s at ≡ (q >>= k) s at
+unfolding _>>=_
+then-first {A} p q k s at e = ap (λ (x : Ans A). follow x k s) e
+
+heads-lack : (f : List ℕ) (filter : Filter) (t : Bool) (s : List ℕ) (n : ℕ) (l : Opening) → Short t s n l → routed f filter t s 0 ≡ need n
+unfolding check
+heads-lack f filter t s n l short =
+    routed-next t s l (short .behind) (short .read) f filter
+    ∙ lacks (l .start) (overallLength (l .header)) s (short .behind) (seen (headersOf f filter (l .stored) (l .header) (l .extended))) n (omega (arith, short .missing)) (omega (arith, short .some))
+
+module _ {A : Type 0} (k : Headers → Parser A) (f : List ℕ) (filter : Filter) (t : Bool) (s : List ℕ) where
+  -- step 5's is given
+  pub given-by : (n : ℕ) (l : Opening) → Short t s n l → (routed f filter t >>= k) s 0 ≡ need n
+  given-by n l short = then-need (routed f filter t) k s 0 (heads-lack f filter t s n l short)
+
+  module _ (n : ℕ) (e : (routed f filter t >>= k) s 0 ≡ need n) where
+    -- headers that were read, and then a need: if declared bytes are missing, it is step 5's
+    pub short-by : (l : Opening) (behind : ℕ) → opening t s 0 ≡ done l behind → length s - l .start < overallLength (l .header) → Short t s n l
+    short-by l behind read lack =
+        let m = overallLength (l .header) - (length s - l .start) in
+        let short : Short t s m l = record { behind = behind; read = read; missing = omega (arith, lack); some = omega (arith, lack) } in
+        subst (λ (j : ℕ). Short t s j l) (same-need (sym (given-by m l short) ∙ e)) short
+
+    -- it is that of steps 2 to 4, or the headers were read
+    pub need-by : {X : Type 0} → (opening t s 0 ≡ need n → X) → ((l : Opening) (behind : ℕ) → opening t s 0 ≡ done l behind → X) → X
+    need-by {X} early read = by (opening t s 0) refl
+      where
+        whole : {x : Ans A} → ((opening t >>= check f filter) >>= k) s 0 ≡ x → x ≡ need n
+        whole q = sym q ∙ then-first (opening t >>= check f filter) (routed f filter t) k s 0 (sym (routed-is f filter t s 0)) ∙ e
+
+        by : (x : Ans Opening) → opening t s 0 ≡ x → X
+        by (done l behind) q = read l behind q
+        by (need m) q = early (q ∙ ap need (same-need (whole (then-need (opening t >>= check f filter) k s 0 (then-need (opening t) (check f filter) s 0 q)))))
+        by (hickup r) q = no-hickup-need (whole (then-hickup (opening t >>= check f filter) k s 0 (then-hickup (opening t) (check f filter) s 0 q)))
+        by broken q = no-broken-need (whole (then-broken (opening t >>= check f filter) k s 0 (then-broken (opening t) (check f filter) s 0 q)))
+
 -- ---- step 5 gave the need
 module _ (f : List ℕ) (filter : Filter) (t : Bool) (s : List ℕ) (n : ℕ) (l : Opening) (short : Short t s n l) where
-  pub heads-lack : routed f filter t s 0 ≡ need n
-  unfolding check
-  heads-lack =
-      routed-next t s l (short .behind) (short .read) f filter
-      ∙ lacks (l .start) (overallLength (l .header)) s (short .behind) (seen (headersOf f filter (l .stored) (l .header) (l .extended))) n (omega (arith, short .missing)) (omega (arith, short .some))
-
   pub given : message f filter t s 0 ≡ need n
   unfolding message
-  given = then-need (routed f filter t) body s 0 heads-lack
+  given = given-by body f filter t s n l short
 
   -- exactly that many more bytes, of any value, bring a decided answer, and every byte is used
   pub worth : ByLength f filter s l → (more : List ℕ) → length more ≡ n → Decided (length (s ++ more)) (message f filter t (s ++ more) 0)
@@ -151,15 +181,11 @@ module _ (f : List ℕ) (filter : Filter) (t : Bool) (s : List ℕ) (n : ℕ) wh
     abbrev all : ℕ
     all = overallLength (l .header)
 
-    -- headers that were read, and then a need: if declared bytes are missing, it is step 5's
     lacking-short : length s - l .start < all → Short t s n l
-    lacking-short lack =
-        let m = all - (length s - l .start) in
-        let short : Short t s m l = record { behind = behind; read = read; missing = omega (arith, lack); some = omega (arith, lack) } in
-        let z : m ≡ n = same-need (sym (given f filter t s m l short) ∙ e) in
-        subst (λ (k : ℕ). Short t s k l) z short
+    unfolding message
+    lacking-short lack = short-by body f filter t s n e l behind read lack
 
-    -- else the message doesn't end by its length
+    -- where no declared byte is missing the message doesn't end by its length
     not-by-length : all ≤ length s - l .start → ByLength f filter s l → ⊥
     not-by-length there c = subst (Decided _) e (by-length t s l behind read f filter there c)
 
@@ -182,13 +208,4 @@ module _ (f : List ℕ) (filter : Filter) (t : Bool) (s : List ℕ) (n : ℕ) wh
 
   pub whose : message f filter t s 0 ≡ need n → Whose f filter t s n
   unfolding message
-  whose e = by (opening t s 0) refl
-    where
-      first : {x : Ans Headers} → (opening t >>= check f filter) s 0 ≡ x → routed f filter t s 0 ≡ x
-      first q = routed-is f filter t s 0 ∙ q
-
-      by : (x : Ans Opening) → opening t s 0 ≡ x → Whose f filter t s n
-      by (done l behind) q = behind-headers l behind q e
-      by (need m) q = Whose.early (q ∙ ap need (same-need (sym (then-need (routed f filter t) body s 0 (first (then-need (opening t) (check f filter) s 0 q))) ∙ e)))
-      by (hickup r) q = no-hickup-need (sym (then-hickup (routed f filter t) body s 0 (first (then-hickup (opening t) (check f filter) s 0 q))) ∙ e)
-      by broken q = no-broken-need (sym (then-broken (routed f filter t) body s 0 (first (then-broken (opening t) (check f filter) s 0 q))) ∙ e)
+  whose e = need-by body f filter t s n e Whose.early (λ l behind q. behind-headers l behind q e)
