@@ -20,7 +20,7 @@ fn main() {
         let words: Vec<&str> = line.split_whitespace().collect();
         if let ["#define", name, number, ..] = words[..] {
             if let (Some(name), Ok(number)) = (name.strip_prefix("DLT_"), number.parse::<u64>()) {
-                let (kind, number) = if ["MESSAGE_", "HEADERS_", "ARGUMENT_", "RAW_"].iter().any(|group| name.starts_with(group)) { ("usize", number) } else { ("u64", number) };
+                let (kind, number) = if ["MESSAGE_", "ARGUMENT_", "RAW_"].iter().any(|group| name.starts_with(group)) { ("usize", number) } else { ("u64", number) };
                 writeln!(made, "pub const {name}: {kind} = {number};").unwrap();
             }
         }

@@ -56,48 +56,6 @@ impl Calls for Linked {
     }
 }
 
-/// As `Calls::messages`, by calls that an archive of before doesn't have: `read` answers with where the message ends.
-fn walked(bytes: &[u8], mut read: impl FnMut(&[u8]) -> Answer) -> u64 {
-    let (mut at, mut items) = (0, 0);
-    while at < bytes.len() {
-        let answer = read(&bytes[at..]);
-        match answer.number {
-            host::raw::DONE => {
-                items += 1;
-                at += answer.used as usize;
-            }
-            host::raw::HICKUP | host::raw::UNRECOVERABLE => at += Linked.forward(&bytes[at..]).used as usize + 4,
-            _ => break,
-        }
-    }
-    items
-}
-
-/// How many messages there are by the first half alone: it goes on at each declared end.
-fn headed(bytes: &[u8], filter: &[u8]) -> u64 {
-    let mut heads = [0; host::raw::HEADERS_SIZE];
-    walked(bytes, |left| {
-        let answer = host::raw::headers(left, filter, true, &mut heads);
-        black_box(&heads);
-        // the numbers of a refusal aren't looked at
-        Answer { used: answer.used + heads[host::raw::MESSAGE_PAYLOAD_LENGTH], ..answer }
-    })
-}
-
-/// How many there are by both halves in a row.
-fn halved(bytes: &[u8], filter: &[u8]) -> u64 {
-    let (mut heads, mut out) = ([0; host::raw::HEADERS_SIZE], [0; host::raw::MESSAGE_SIZE]);
-    walked(bytes, |left| {
-        let answer = host::raw::headers(left, filter, true, &mut heads);
-        if answer.number != host::raw::DONE {
-            return answer;
-        }
-        let answer = host::raw::payload(left, &heads, &mut out);
-        black_box(&out);
-        answer
-    })
-}
-
 fn core_messages(bytes: &[u8], filter: Option<&ProcessedDltFilterConfig>) -> u64 {
     let (mut at, mut items) = (0, 0);
     while at < bytes.len() {
@@ -253,7 +211,6 @@ fn main() {
     }
     let clean = traces::mixed(SIZE, 7, false, Ids::Letters);
     row("dlt_consume_msg, the same without junk", clean.len(), "dlt-core", in_turn(rounds, || Linked.consumed(&clean), || core_consumed(&clean)));
-    halves(rounds, &trace, &clean);
     let mut table = vec![0; 4 * (SIZE / 20 + 1)];
     for part in [SIZE / 64, SIZE / 16, SIZE / 4, SIZE] {
         row(&format!("index, {} MB of the mixed trace", part >> 20), part, "dlt-core", in_turn(rounds, || Linked.indexed(&trace[..part], &[], SIZE * 2, &mut table), || core_indexed(&trace[..part], None)));
@@ -267,20 +224,6 @@ fn main() {
     other_ids(rounds, &mut table);
     searches(rounds);
     worst(rounds, &mut table);
-}
-
-/// The two halves of dlt_message. dlt-core has no such calls: its dlt_message stands beside them; then our own calls.
-fn halves(rounds: u32, trace: &[u8], clean: &[u8]) {
-    let (bytes, config) = filters(4, "APP", Ids::Letters);
-    for (under, filter, config) in [("", &[][..], None), (", filter of three sets of 4", &bytes[..], Some(&config))] {
-        let first = format!("dlt_headers, the mixed trace{under} (beside it dlt_message: dlt-core has no such call)");
-        row(&first, trace.len(), "dlt-core", in_turn(rounds, || headed(trace, filter), || core_messages(trace, config)));
-        let both = format!("dlt_headers and dlt_payload in a row{under} (beside them dlt_message)");
-        row(&both, trace.len(), "dlt-core", in_turn(rounds, || halved(trace, filter), || core_messages(trace, config)));
-        row(&format!("dlt_headers, the same{under}"), trace.len(), "our dlt_message", in_turn(rounds, || headed(trace, filter), || Linked.messages(trace, filter, false)));
-        row(&format!("dlt_headers and dlt_payload in a row{under}"), trace.len(), "our dlt_message", in_turn(rounds, || halved(trace, filter), || Linked.messages(trace, filter, false)));
-    }
-    row("dlt_headers, the same without junk", clean.len(), "our dlt_consume_msg", in_turn(rounds, || headed(clean, &[]), || Linked.consumed(clean)));
 }
 
 /// The mixed trace with other identifiers. The index looks at them only under a filter.

@@ -37,7 +37,7 @@ static const uint32_t words[] = {0x41, 0x200};
 static const uint8_t data[] = {7, 3, 0, 'h', 'i', 0};
 
 int main(void) {
-    uint64_t out[64] = {0}, table[64] = {0}, heads[DLT_HEADERS_SIZE] = {0};
+    uint64_t out[64] = {0}, table[64] = {0};
     dlt_answer a;
     dlt_index_answer i;
     printf("each call once, after one that is not counted\n");
@@ -47,12 +47,6 @@ int main(void) {
     size_t at = out[DLT_MESSAGE_START], left = out[DLT_MESSAGE_LENGTH];
     MEASURE("dlt_message, with a filter", a = dlt_message(message, sizeof message, filter, sizeof filter, true, out, 64));
     if (a.number != 0) printf("dlt_message answered %d\n", (int)a.number);
-    MEASURE("dlt_headers", a = dlt_headers(message, sizeof message, filter, 0, true, heads, DLT_HEADERS_SIZE));
-    if (a.number != 0) printf("dlt_headers answered %d\n", (int)a.number);
-    MEASURE("dlt_headers, with a filter", a = dlt_headers(message, sizeof message, filter, sizeof filter, true, heads, DLT_HEADERS_SIZE));
-    if (a.number != 0) printf("dlt_headers answered %d\n", (int)a.number);
-    MEASURE("dlt_payload", a = dlt_payload(message, sizeof message, heads, DLT_HEADERS_SIZE, out, 64));
-    if (a.number != 0) printf("dlt_payload answered %d\n", (int)a.number);
     MEASURE("dlt_argument", a = dlt_argument(message, sizeof message, at + 14, left - 2, false, out, 64));
     MEASURE("dlt_raw_value", a = dlt_raw_value(message, sizeof message, at, left, false, out, 64));
     MEASURE("dlt_index", i = dlt_index(message, sizeof message, filter, 0, 0, 0, table, 64, SIZE_MAX));

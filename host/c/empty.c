@@ -1,7 +1,6 @@
-/* A host in C: each call with NULL and length 0 for a slice answers as for an empty slice, and a message without a filter is read, whole and in halves. */
+/* A host in C: each call with NULL and length 0 for a slice answers as for an empty slice, and a message without a filter is read. */
 #include "dlt.h"
 #include <stdio.h>
-#include <string.h>
 
 static int wrong = 0;
 
@@ -10,21 +9,6 @@ static void expect(const char *what, dlt_answer got, uint64_t number, uint64_t v
         printf("%s: %llu %llu %llu\n", what, (unsigned long long)got.number, (unsigned long long)got.value, (unsigned long long)got.used);
         wrong = 1;
     }
-}
-
-/* A message in two halves leaves what dlt_message leaves. */
-static void in_halves(const char *what, const uint8_t *bytes, size_t len, size_t payload) {
-    uint64_t whole[DLT_MESSAGE_SIZE] = {0}, halves[DLT_MESSAGE_SIZE] = {0}, heads[DLT_HEADERS_SIZE] = {0};
-    dlt_answer answer = dlt_message(bytes, len, NULL, 0, false, whole, DLT_MESSAGE_SIZE);
-
-    expect(what, dlt_headers(bytes, len, NULL, 0, false, heads, DLT_HEADERS_SIZE), DLT_DONE, 0, payload);
-    wrong |= heads[DLT_HEADERS_PAYLOAD] != payload;
-    expect(what, dlt_payload(bytes, len, heads, DLT_HEADERS_SIZE, halves, DLT_MESSAGE_SIZE), answer.number, answer.value, answer.used);
-    wrong |= memcmp(whole, halves, sizeof whole) != 0;
-    heads[DLT_MESSAGE_COUNTER]++;
-    expect(what, dlt_payload(bytes, len, heads, DLT_HEADERS_SIZE, halves, DLT_MESSAGE_SIZE), DLT_MISMATCH, 0, 0);
-    expect(what, dlt_payload(NULL, 0, heads, DLT_HEADERS_SIZE, halves, DLT_MESSAGE_SIZE), DLT_MISMATCH, 0, 0);
-    wrong |= memcmp(whole, halves, sizeof whole) != 0;
 }
 
 int main(void) {
@@ -40,15 +24,6 @@ int main(void) {
     expect("no bytes, storage", dlt_message(NULL, 0, NULL, 0, true, out, DLT_MESSAGE_SIZE), DLT_INCOMPLETE, 0, 0);
     expect("no room", dlt_message(message, 8, NULL, 0, false, NULL, 0), DLT_SHORT_OUT, DLT_MESSAGE_SIZE, 0);
     expect("no room for an argument", dlt_argument(NULL, 0, 0, 1, false, NULL, 0), DLT_SHORT_OUT, DLT_ARGUMENT_SIZE, 0);
-    expect("headers of no bytes", dlt_headers(NULL, 0, NULL, 0, false, out, DLT_HEADERS_SIZE), DLT_INCOMPLETE, 1, 0);
-    expect("headers of no bytes, storage", dlt_headers(NULL, 0, NULL, 0, true, out, DLT_HEADERS_SIZE), DLT_INCOMPLETE, 0, 0);
-    expect("no room for headers", dlt_headers(message, 8, NULL, 0, false, NULL, 0), DLT_SHORT_OUT, DLT_HEADERS_SIZE, 0);
-    expect("no headers", dlt_payload(message, 8, NULL, 0, out, DLT_MESSAGE_SIZE), DLT_MISMATCH, 0, 0);
-    expect("no headers and no bytes", dlt_payload(NULL, 0, NULL, 0, out, DLT_MESSAGE_SIZE), DLT_MISMATCH, 0, 0);
-    expect("no headers and no room", dlt_payload(NULL, 0, NULL, 0, NULL, 0), DLT_SHORT_OUT, DLT_MESSAGE_SIZE, 0);
-    in_halves("a message in halves", message, 8, 4);
-    in_halves("an ECU id in halves", named, 12, 8);
-    in_halves("a network trace in halves", trace, 28, 14);
     expect("an ECU id of APP and a zero byte", dlt_message(named, 12, NULL, 0, false, out, DLT_MESSAGE_SIZE), DLT_DONE, 0, 12);
     wrong |= out[DLT_MESSAGE_ECU_ENDED] != DLT_ENDED_ZERO || out[DLT_MESSAGE_CONTEXT_ENDED] != DLT_ENDED_NONE;
     expect("an argument of no bytes", dlt_argument(NULL, 0, 0, 1, false, out, DLT_ARGUMENT_SIZE), DLT_INCOMPLETE, 4, 0);

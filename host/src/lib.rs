@@ -14,18 +14,16 @@
 //! ```
 
 mod argument;
-mod headers;
 mod message;
 pub mod raw;
 pub mod text;
 mod trace;
 
 pub use argument::{arguments, raw_values, signals, Argument, Arguments, FixedPoint, Kind, Offset, RawValues, Signals, TypeInfo, Value};
-pub use headers::{headers, Headers};
 pub use trace::{index, index_in_steps, End, Entry, EntryKind, IndexRefusal, Indexed, State, NO_LIMIT};
 pub use message::{message, Cursor, ExtendedHeader, Message, MessageType, Parsed, Payload, RawCursor, StandardHeader, StorageHeader};
 
-/// Why there is no value: document 01's numbers 1 to 4, and 13 and 14.
+/// Why there is no value: document 01's numbers 1 to 4, and 13.
 #[derive(Clone, Copy, Debug, PartialEq, Eq)]
 pub enum Refusal {
     /// The filter's bytes break a rule.
@@ -39,8 +37,6 @@ pub enum Refusal {
     Hickup(Reason),
     /// The payload is too short for what it must hold.
     Unrecoverable,
-    /// The headers are not those that [`headers`](headers()) gives for these bytes. Of [`Headers::payload`] alone.
-    Mismatch,
 }
 
 /// Why bytes are no message: document 01's reasons. It is proved which of them each call gives (crates/reasons), and that 3 comes out of none.
@@ -172,7 +168,6 @@ fn refused(answer: raw::Answer) -> Result<(), Refusal> {
         raw::INCOMPLETE => Err(Refusal::Incomplete(answer.value)),
         raw::HICKUP => Err(Refusal::Hickup(Reason::of(answer.value))),
         raw::UNRECOVERABLE => Err(Refusal::Unrecoverable),
-        raw::MISMATCH => Err(Refusal::Mismatch),
         // the slices lent here are as long as they must be
         other => unreachable!("answer number {other}"),
     }

@@ -111,102 +111,63 @@ pub struct RawCursor {
 pub fn message(bytes: &[u8], filter: &[u8], with_storage_header: bool) -> Result<(Parsed, usize), Refusal> {
     let mut out = [0; raw::MESSAGE_SIZE];
     let answer = raw::message(bytes, filter, with_storage_header, &mut out);
-    parsed(answer, &out)
-}
-
-/// What a call that reads a message to its end has answered, and left in `out`.
-pub(crate) fn parsed(answer: raw::Answer, out: &[u64]) -> Result<(Parsed, usize), Refusal> {
     refused(answer)?;
     let parsed = match out[raw::MESSAGE_FILTERED] {
-        0 => Parsed::Item(item(out)),
+        0 => Parsed::Item(item(&out)),
         _ => Parsed::FilteredOut(out[raw::MESSAGE_PAYLOAD_LENGTH]),
     };
     Ok((parsed, answer.used as usize))
 }
 
-/// Where the reasons stand why the identifiers ended. All else of the headers stands at the same places for dlt_message and for dlt_headers.
-pub(crate) struct Ends {
-    stored_ecu: usize,
-    ecu: usize,
-    application: usize,
-    context: usize,
-}
-
-impl Ends {
-    const OF_MESSAGE: Ends = Ends {
-        stored_ecu: raw::MESSAGE_STORED_ECU_ENDED,
-        ecu: raw::MESSAGE_ECU_ENDED,
-        application: raw::MESSAGE_APPLICATION_ENDED,
-        context: raw::MESSAGE_CONTEXT_ENDED,
-    };
-
-    pub(crate) const OF_HEADERS: Ends = Ends {
-        stored_ecu: raw::HEADERS_STORED_ECU_ENDED,
-        ecu: raw::HEADERS_ECU_ENDED,
-        application: raw::HEADERS_APPLICATION_ENDED,
-        context: raw::HEADERS_CONTEXT_ENDED,
-    };
-}
-
 fn item(out: &[u64]) -> Message {
+    let stored_ecu = text_if(out[raw::MESSAGE_STORED] == 1, out, raw::MESSAGE_STORED_ECU, raw::MESSAGE_STORED_ECU_ENDED);
+    let has_extended = out[raw::MESSAGE_EXTENDED] == 1;
+    let application = text_if(has_extended, out, raw::MESSAGE_APPLICATION, raw::MESSAGE_APPLICATION_ENDED);
+    let context = text_if(has_extended, out, raw::MESSAGE_CONTEXT, raw::MESSAGE_CONTEXT_ENDED);
     Message {
-        storage_header: stored(out, &Ends::OF_MESSAGE),
-        header: standard(out, &Ends::OF_MESSAGE),
-        extended_header: extended(out, &Ends::OF_MESSAGE),
+        storage_header: stored_ecu.map(|ecu_id| StorageHeader {
+            seconds: out[raw::MESSAGE_SECONDS] as u32,
+            microseconds: out[raw::MESSAGE_MICROSECONDS] as u32,
+            ecu_id,
+            skipped: out[raw::MESSAGE_SKIPPED] as usize,
+        }),
+        header: standard(out),
+        extended_header: application.zip(context).map(|(application_id, context_id)| extended(out, application_id, context_id)),
         payload: payload(out),
     }
-}
-
-/// The storage header, by the numbers of either call.
-pub(crate) fn stored(out: &[u64], ends: &Ends) -> Option<StorageHeader> {
-    let ecu_id = text_if(out[raw::MESSAGE_STORED] == 1, out, raw::MESSAGE_STORED_ECU, ends.stored_ecu)?;
-    Some(StorageHeader {
-        seconds: out[raw::MESSAGE_SECONDS] as u32,
-        microseconds: out[raw::MESSAGE_MICROSECONDS] as u32,
-        ecu_id,
-        skipped: out[raw::MESSAGE_SKIPPED] as usize,
-    })
 }
 
 fn maybe_number(out: &[u64], at: usize) -> Option<u32> {
     (out[at] == 1).then(|| out[at + 1] as u32)
 }
 
-/// The standard header, likewise.
-pub(crate) fn standard(out: &[u64], ends: &Ends) -> StandardHeader {
+fn standard(out: &[u64]) -> StandardHeader {
     StandardHeader {
         version: out[raw::MESSAGE_VERSION] as u8,
         big_endian: out[raw::MESSAGE_BIG] == 1,
         has_extended_header: out[raw::MESSAGE_HAS_EXTENDED] == 1,
         message_counter: out[raw::MESSAGE_COUNTER] as u8,
-        ecu_id: maybe_text(out, raw::MESSAGE_ECU, ends.ecu),
+        ecu_id: maybe_text(out, raw::MESSAGE_ECU, raw::MESSAGE_ECU_ENDED),
         session_id: maybe_number(out, raw::MESSAGE_SESSION),
         timestamp: maybe_number(out, raw::MESSAGE_TIMESTAMP),
         payload_length: out[raw::MESSAGE_PAYLOAD_LENGTH] as u16,
     }
 }
 
-/// The extended header, likewise.
-pub(crate) fn extended(out: &[u64], ends: &Ends) -> Option<ExtendedHeader> {
-    let there = out[raw::MESSAGE_EXTENDED] == 1;
-    let application_id = text_if(there, out, raw::MESSAGE_APPLICATION, ends.application);
-    let context_id = text_if(there, out, raw::MESSAGE_CONTEXT, ends.context);
-    Some(ExtendedHeader {
+fn extended(out: &[u64], application_id: Text, context_id: Text) -> ExtendedHeader {
+    let subtype = out[raw::MESSAGE_SUBTYPE] as u8;
+    ExtendedHeader {
         verbose: out[raw::MESSAGE_VERBOSE] == 1,
         argument_count: out[raw::MESSAGE_ARGUMENTS] as u8,
-        message_type: message_type(out[raw::MESSAGE_TYPE], out[raw::MESSAGE_SUBTYPE] as u8),
-        application_id: application_id?,
-        context_id: context_id?,
-    })
-}
-
-fn message_type(kind: u64, subtype: u8) -> MessageType {
-    match kind {
-        0 => MessageType::Log(subtype),
-        1 => MessageType::ApplicationTrace(subtype),
-        2 => MessageType::NetworkTrace(subtype),
-        3 => MessageType::Control(subtype),
-        kind => MessageType::Unknown(kind as u8, subtype),
+        message_type: match out[raw::MESSAGE_TYPE] {
+            0 => MessageType::Log(subtype),
+            1 => MessageType::ApplicationTrace(subtype),
+            2 => MessageType::NetworkTrace(subtype),
+            3 => MessageType::Control(subtype),
+            kind => MessageType::Unknown(kind as u8, subtype),
+        },
+        application_id,
+        context_id,
     }
 }
 

@@ -51,8 +51,6 @@ mod archive {
 
     calls! {
         dlt_message(s: *const u8, s_len: usize, f: *const u8, f_len: usize, storage: bool, out: *mut u64, out_len: usize) -> Answer;
-        dlt_headers(s: *const u8, s_len: usize, f: *const u8, f_len: usize, storage: bool, out: *mut u64, out_len: usize) -> Answer;
-        dlt_payload(s: *const u8, s_len: usize, heads: *const u64, heads_len: usize, out: *mut u64, out_len: usize) -> Answer;
         dlt_argument(s: *const u8, s_len: usize, at: usize, left: usize, big: bool, out: *mut u64, out_len: usize) -> Answer;
         dlt_raw_value(s: *const u8, s_len: usize, at: usize, left: usize, big: bool, out: *mut u64, out_len: usize) -> Answer;
         dlt_forward_to_next_storage_header(s: *const u8, s_len: usize, at: usize) -> Answer;
@@ -68,16 +66,6 @@ mod archive {
 /// One message at the front of `s`, under the filter `f`; its numbers go into `out`.
 pub fn message(s: &[u8], f: &[u8], storage: bool, out: &mut [u64]) -> Answer {
     unsafe { archive::dlt_message(s.as_ptr(), s.len(), f.as_ptr(), f.len(), storage, out.as_mut_ptr(), out.len()) }
-}
-
-/// The first half of [`message`]: the numbers of the headers go into `out`.
-pub fn headers(s: &[u8], f: &[u8], storage: bool, out: &mut [u64]) -> Answer {
-    unsafe { archive::dlt_headers(s.as_ptr(), s.len(), f.as_ptr(), f.len(), storage, out.as_mut_ptr(), out.len()) }
-}
-
-/// The second half: by the numbers that [`headers`] gave for `s`, what [`message`] leaves goes into `out`.
-pub fn payload(s: &[u8], heads: &[u64], out: &mut [u64]) -> Answer {
-    unsafe { archive::dlt_payload(s.as_ptr(), s.len(), heads.as_ptr(), heads.len(), out.as_mut_ptr(), out.len()) }
 }
 
 /// The next argument of a list by its cursor; its numbers go into `out`.

@@ -1,6 +1,5 @@
 //! The wrapper's answers in the one text of all answers (docs/REQUESTS.md), as `replay` and the oracle print them.
 
-use crate::message::parsed;
 use crate::*;
 use std::fmt::Write;
 
@@ -11,7 +10,6 @@ fn refusal(refusal: Refusal) -> String {
         Refusal::Incomplete(need) => format!("2 {need}"),
         Refusal::Hickup(reason) => format!("3 {}", reason.number()),
         Refusal::Unrecoverable => "4".to_string(),
-        Refusal::Mismatch => "14".to_string(),
     }
 }
 
@@ -48,48 +46,12 @@ fn letter(text: Option<Text>) -> &'static str {
 
 /// The answer to `msg`, or with `why` to `why msg`.
 pub fn msg(storage: bool, filter: &[u8], bytes: &[u8], why: bool) -> String {
-    whole(bytes, message(bytes, filter, storage), why)
-}
-
-/// A message that was read to its end.
-fn whole(bytes: &[u8], read: Result<(Parsed, usize), Refusal>, why: bool) -> String {
-    match read {
+    match message(bytes, filter, storage) {
         Err(no) => refusal(no),
         Ok((Parsed::FilteredOut(length), used)) => format!("0 filtered used={used} plen={length}"),
         Ok((Parsed::Item(message), used)) if why => item(bytes, &message, used, true) + &ids_ended(&message),
         Ok((Parsed::Item(message), used)) => item(bytes, &message, used, false),
     }
-}
-
-/// The answer to `head`.
-pub fn head(storage: bool, filter: &[u8], bytes: &[u8]) -> String {
-    headers(bytes, filter, storage).map_or_else(refusal, |heads| {
-        let (next, length, drop) = (heads.payload_place(), heads.declared_length(), u8::from(heads.filtered()));
-        let fields = fields(bytes, heads.storage_header(), &heads.header(), heads.extended_header());
-        format!("0 head next={next} len={length} drop={drop} {fields}")
-    })
-}
-
-/// The answer to `rest`: the first half of `bytes`, and the second of `later`, with the first's numbers changed to the values at the places named. A place is
-/// below [`raw::HEADERS_SIZE`].
-pub fn rest(storage: bool, filter: &[u8], bytes: &[u8], later: &[u8], changes: &[(usize, u64)]) -> String {
-    let read = match changes {
-        [] => headers(bytes, filter, storage).and_then(|heads| heads.payload(later)),
-        changes => rest_of_changed(storage, filter, bytes, later, changes),
-    };
-    whole(later, read, false)
-}
-
-/// The second half by changed numbers, which no [`Headers`] holds.
-fn rest_of_changed(storage: bool, filter: &[u8], bytes: &[u8], later: &[u8], changes: &[(usize, u64)]) -> Result<(Parsed, usize), Refusal> {
-    let mut heads = [0; raw::HEADERS_SIZE];
-    refused(raw::headers(bytes, filter, storage, &mut heads))?;
-    for &(place, value) in changes {
-        heads[place] = value;
-    }
-    let mut out = [0; raw::MESSAGE_SIZE];
-    let answer = raw::payload(later, &heads, &mut out);
-    parsed(answer, &out)
 }
 
 /// Why each identifier of a message ended.
@@ -105,17 +67,12 @@ fn ids_ended(message: &Message) -> String {
 }
 
 fn item(bytes: &[u8], message: &Message, used: usize, why: bool) -> String {
-    let fields = fields(bytes, message.storage_header, &message.header, message.extended_header);
-    format!("0 item used={used} {fields} pay={}", payload(bytes, message, used, why))
-}
-
-/// The headers, from `sh=` to `ext=`.
-fn fields(bytes: &[u8], stored: Option<StorageHeader>, header: &StandardHeader, extended_header: Option<ExtendedHeader>) -> String {
-    let stored = stored.map_or("-".to_string(), |stored| {
+    let header = &message.header;
+    let stored = message.storage_header.map_or("-".to_string(), |stored| {
         format!("{},{},.{},skip{}", stored.seconds, stored.microseconds, shown(bytes, stored.ecu_id), stored.skipped)
     });
     format!(
-        "sh={stored} ver={} end={} ctr={} plen={} ecu={} ses={} ts={} ext={}",
+        "0 item used={used} sh={stored} ver={} end={} ctr={} plen={} ecu={} ses={} ts={} ext={} pay={}",
         header.version,
         if header.big_endian { "B" } else { "L" },
         header.message_counter,
@@ -123,7 +80,8 @@ fn fields(bytes: &[u8], stored: Option<StorageHeader>, header: &StandardHeader, 
         labelled(bytes, header.ecu_id),
         or_dash(header.session_id),
         or_dash(header.timestamp),
-        extended_header.map_or("-".to_string(), |header| extended(bytes, &header)),
+        message.extended_header.map_or("-".to_string(), |header| extended(bytes, &header)),
+        payload(bytes, message, used, why),
     )
 }
 
@@ -292,37 +250,15 @@ pub fn answer(line: &str) -> Option<String> {
         ["args", order @ ("L" | "l" | "B" | "b"), words, data] => Some(args(order.eq_ignore_ascii_case("b"), &hex_words(words)?, &hex(data)?, why)),
         // the other requests aren't asked why
         _ if why => None,
-        ["head", storage @ ("0" | "1"), filter, bytes] => Some(head(storage == "1", &hex(filter)?, &hex(bytes)?)),
-        ["rest", storage @ ("0" | "1"), filter, bytes, later, ref changed @ ..] if changed.len() <= 1 => {
-            let changed = changed.first().map_or(Some(Vec::new()), |word| changes(word))?;
-            Some(rest(storage == "1", &hex(filter)?, &hex(bytes)?, &hex(later)?, &changed))
-        }
         ["fwd", bytes] => Some(fwd(&hex(bytes)?)),
         ["consume", bytes] => Some(consume(&hex(bytes)?)),
         ["index", cap, at, used, filter, bytes, ref limit @ ..] if limit.len() <= 1 => {
-            let number = |word: &str| decimal(word).and_then(|number| usize::try_from(number).ok());
+            let number = |word: &str| word.parse::<usize>().ok();
             let limit = limit.first().map(|word| number(word).ok_or(())).transpose().ok()?;
             Some(index(number(cap).filter(|cap| *cap <= 4096)?, number(at)?, number(used)?, &hex(filter)?, &hex(bytes)?, limit))
         }
         _ => None,
     }
-}
-
-/// PLACE:VALUE, one to 64 of them with commas between.
-fn changes(word: &str) -> Option<Vec<(usize, u64)>> {
-    let change = |word: &str| {
-        let (place, value) = word.split_once(':')?;
-        let place = decimal(place).filter(|&place| place < raw::HEADERS_SIZE as u64)?;
-        Some((place as usize, decimal(value)?))
-    };
-    let all: Vec<(usize, u64)> = word.split(',').map(change).collect::<Option<_>>()?;
-    (all.len() <= 64).then_some(all)
-}
-
-/// 1 to 20 digits of a number that fits 64 bits.
-fn decimal(word: &str) -> Option<u64> {
-    let good = (1..=20).contains(&word.len()) && word.bytes().all(|b| b.is_ascii_digit());
-    good.then(|| word.parse().ok()).flatten()
 }
 
 fn hex(word: &str) -> Option<Vec<u8>> {

@@ -8,7 +8,7 @@ use crate::parse::{
 };
 use crate::request::{self, Request};
 use crate::text::{ended, guarded, or_dash, refusal, text, used, Line};
-use crate::{arguments, confined, halves, message, retire};
+use crate::{arguments, confined, message, retire};
 use std::convert::TryFrom;
 use std::io::{BufRead, Write};
 use std::panic::{catch_unwind, AssertUnwindSafe};
@@ -47,10 +47,6 @@ fn ask(request: &Request) -> Line {
     match request {
         Request::Message { storage, filter, bytes } => message::answer(*storage, filter, bytes, false),
         Request::Confined { storage, filter, bytes } => confined::answer(*storage, filter, bytes),
-        Request::Head { storage, filter, bytes } => halves::head(*storage, filter, bytes),
-        Request::Rest { storage, filter, bytes, later, changes } => {
-            halves::rest(*storage, filter, bytes, later, changes)
-        }
         Request::ZeroTerminated { size, bytes } => zero_terminated(*size, bytes, false),
         Request::Skip { bytes } => skip(bytes),
         Request::Consume { bytes } => consume(bytes),

@@ -40,8 +40,8 @@ pub fn written_answers(design: &Path) -> Result<Vec<Pair>, String> {
         pairs.extend(answers_in(design, name)?.into_iter().map(as_it_is_now));
     }
     let is_read = |(request, _): &Pair| request::read(request.as_bytes()).is_some();
-    for name in ["vectors3.txt", "vectors11.txt", "vectors12.txt"] {
-        pairs.extend(answers_in(&design.join("wishes/vectors"), name)?.into_iter().filter(is_read));
+    for name in ["wishes/vectors/vectors3.txt", "wishes/vectors/vectors11.txt"] {
+        pairs.extend(answers_in(design, name)?.into_iter().filter(is_read));
     }
     Ok(pairs)
 }

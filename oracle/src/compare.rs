@@ -1,11 +1,9 @@
 //! Runs both sides on the same requests and counts the answers that differ.
 
 use crate::answer::{answer, be_silent_in_panics};
-use crate::halves::{places_changed, NUMBERS};
 use crate::request::LONGEST_LINE;
 use crate::requests::kinds;
 use crate::retire;
-use std::fmt;
 use std::io::{BufWriter, Read, Write};
 use std::process::{Command, Stdio};
 
@@ -19,18 +17,9 @@ pub fn compare(kind: &str, count: &str, seed: &str, ours: &[&str]) -> Result<boo
     let kinds = kinds(kind)?;
     let (mut requests, mut differ) = (0, 0);
     for kind in &kinds {
-        let mut both = Both::new(ours);
-        let mut changed = Changed([0; NUMBERS]);
-        kind.make(read_count(count)?, read_seed(seed)?, &mut |line| {
-            both.add(line);
-            if kind.is_rest() {
-                changed.count(line);
-            }
-        });
+        let mut both = Both { ours, batch: String::new(), waiting: 0, requests: 0, differ: 0, problem: None };
+        kind.make(read_count(count)?, read_seed(seed)?, &mut |line| both.add(line));
         both.finish();
-        if kind.is_rest() {
-            println!("{changed}");
-        }
         if kinds.len() > 1 {
             println!("{}: {} requests, {} differ", kind.name, both.requests, both.differ);
         }
@@ -63,22 +52,6 @@ fn read_seed(word: &str) -> Result<u64, String> {
     word.parse().map_err(|_| format!("{word} is no seed"))
 }
 
-/// How often each number of the first half, where that was done, was handed over as another.
-struct Changed([usize; NUMBERS]);
-
-impl Changed {
-    fn count(&mut self, line: &str) {
-        places_changed(line).iter().for_each(|&place| self.0[place] += 1);
-    }
-}
-
-impl fmt::Display for Changed {
-    fn fmt(&self, line: &mut fmt::Formatter) -> fmt::Result {
-        write!(line, "numbers handed over as others, by place:")?;
-        self.0.iter().enumerate().try_for_each(|(place, count)| write!(line, " {place}:{count}"))
-    }
-}
-
 struct Both<'a> {
     ours: &'a [&'a str],
     batch: String,
@@ -88,11 +61,7 @@ struct Both<'a> {
     problem: Option<String>,
 }
 
-impl<'a> Both<'a> {
-    fn new(ours: &'a [&'a str]) -> Both<'a> {
-        Both { ours, batch: String::new(), waiting: 0, requests: 0, differ: 0, problem: None }
-    }
-
+impl Both<'_> {
     fn add(&mut self, line: &str) {
         if self.problem.is_some() || line.len() > LONGEST_LINE {
             return;

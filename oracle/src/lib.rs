@@ -1,8 +1,8 @@
 //! The oracle: the crate dlt-core itself, asked by lines of text.
 //!
-//! The three modules at the end are dlt-core's own files, unchanged, in the copy
-//! that `setup` makes. All else here turns request lines into calls of that crate
-//! and its answers into answer lines. `cargo fmt` passes those three over.
+//! The three modules at the end are dlt-core's own files, unchanged, read through
+//! the link that `setup` makes. All else here turns request lines into calls of
+//! that crate and its answers into answer lines.
 
 #![allow(unexpected_cfgs)]
 
@@ -15,7 +15,6 @@ pub mod check;
 pub mod compare;
 pub mod confined;
 mod filter;
-pub mod halves;
 pub mod index;
 pub mod list;
 mod message;
@@ -24,15 +23,12 @@ pub mod requests;
 mod retire;
 mod text;
 
-#[rustfmt::skip]
 #[allow(dead_code)]
 #[path = "../dlt-core/src/dlt.rs"]
 mod dlt;
-#[rustfmt::skip]
 #[allow(dead_code)]
 #[path = "../dlt-core/src/filtering.rs"]
 mod filtering;
-#[rustfmt::skip]
 #[allow(dead_code)]
 #[path = "../dlt-core/src/parse.rs"]
 mod parse;

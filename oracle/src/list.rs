@@ -22,14 +22,11 @@ const MOST_OF_RETIRE: u64 = 360;
 /// The same of a kind of the confined reading.
 const MOST_OF_CONFINED: u64 = 700;
 
-/// The same of a kind of the halves.
-const MOST_OF_A_HALF: u64 = 560;
-
 /// Longer lines are left to `compare`.
 const LONGEST_LISTED: usize = 400;
 
 /// Both files together stay below this, but for what stands behind the others and takes no room from them: the lines of
-/// `why`, the twins without counts of all these, the lines of `retire`, those of `conf` and `overrun`, and those of the halves.
+/// `why`, the twins without counts of all these, the lines of `retire`, and those of `conf` and `overrun`.
 const MOST_BYTES: usize = 1_500_000;
 
 /// A few lines that can't be read.
@@ -44,7 +41,6 @@ pub fn list(design: &Path, folder: &Path, words: &[&str]) -> Result<bool, String
         chosen.extend(kinds(word)?);
     }
     let (retire, chosen): (Vec<&Kind>, Vec<&Kind>) = chosen.into_iter().partition(|kind| kind.is_retire());
-    let (halves, chosen): (Vec<&Kind>, Vec<&Kind>) = chosen.into_iter().partition(|kind| kind.is_half());
     let (confined, chosen): (Vec<&Kind>, Vec<&Kind>) = chosen.into_iter().partition(|kind| kind.is_confined());
     let (why, others): (Vec<&Kind>, Vec<&Kind>) = chosen.into_iter().partition(|kind| kind.is_why());
     let written = written_answers(design)?;
@@ -58,7 +54,6 @@ pub fn list(design: &Path, folder: &Path, words: &[&str]) -> Result<bool, String
     files.add_twins();
     files.add_kinds(&retire, &written, MOST_OF_RETIRE);
     files.add_kinds(&confined, &written, MOST_OF_CONFINED);
-    files.add_kinds(&halves, &written, MOST_OF_A_HALF);
     write(folder, "stdin", &files.requests)?;
     write(folder, "stdout", &files.answers)?;
     let lines = files.requests.lines().count();

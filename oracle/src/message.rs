@@ -4,7 +4,7 @@
 //! in dlt-core's src/parse.rs, Apache-2.0) because the crate hands back no places.
 
 use crate::arguments::{label, label_ended, network_trace, verbose};
-use crate::dlt::{Endianness, ExtendedHeader, Message, MessageType, PayloadContent, StandardHeader, StorageHeader};
+use crate::dlt::{Endianness, ExtendedHeader, Message, MessageType, PayloadContent};
 use crate::filter::{self, Filter};
 use crate::filtering::ProcessedDltFilterConfig;
 use crate::parse::{dlt_message, forward_to_next_storage_header, ParsedMessage};
@@ -47,23 +47,6 @@ impl Places {
     pub fn end(&self) -> usize {
         self.standard + self.declared
     }
-
-    /// Where each identifier stands, if there is one.
-    pub fn stored_ecu(&self) -> usize {
-        self.skipped + 12
-    }
-
-    pub fn ecu(&self) -> usize {
-        self.standard + 4
-    }
-
-    pub fn application(&self) -> usize {
-        self.extended + 2
-    }
-
-    pub fn context(&self) -> usize {
-        self.extended + 6
-    }
 }
 
 /// Only asked of messages whose headers the crate could read.
@@ -93,87 +76,58 @@ fn filtered(bytes: &[u8], used: usize, storage: bool, length: usize) -> Line {
     Ok(format!("0 filtered used={used} plen={length}"))
 }
 
-/// The headers of a message as the crate reads them.
-#[derive(Clone, Copy, PartialEq)]
-pub struct Headers<'a> {
-    pub stored: Option<&'a StorageHeader>,
-    pub standard: &'a StandardHeader,
-    pub extended: Option<&'a ExtendedHeader>,
-}
-
-impl Headers<'_> {
-    pub fn of(message: &Message) -> Headers<'_> {
-        Headers {
-            stored: message.storage_header.as_ref(),
-            standard: &message.header,
-            extended: message.extended_header.as_ref(),
-        }
-    }
-
-    /// The fields of an answer from `sh=` to `ext=`.
-    pub fn fields(&self, bytes: &[u8], places: &Places) -> Line {
-        let standard = self.standard;
-        expect(usize::from(standard.overall_length()) == places.declared, "the declared length")?;
-        let stored = match self.stored {
-            Some(stored) => storage_header(bytes, places, stored)?,
-            None => "-".to_string(),
-        };
-        let order = if standard.endianness == Endianness::Big { "B" } else { "L" };
-        let ecu = label(bytes, places.ecu(), &standard.ecu_id)?;
-        let extended = match self.extended {
-            Some(extended) => extended_header(bytes, places, extended)?,
-            None => "-".to_string(),
-        };
-        Ok(format!(
-            "sh={stored} ver={} end={order} ctr={} plen={} ecu={ecu} ses={} ts={} ext={extended}",
-            standard.version,
-            standard.message_counter,
-            standard.payload_length,
-            or_dash(standard.session_id),
-            or_dash(standard.timestamp),
-        ))
-    }
-
-    /// Why each identifier ended: stored ECU, ECU, application, context.
-    pub fn ends(&self, bytes: &[u8], places: &Places) -> Result<[char; 4], String> {
-        let stored = match self.stored {
-            Some(stored) => ended(bytes, places.stored_ecu(), ID, &stored.ecu_id)?,
-            None => '-',
-        };
-        let ecu = label_ended(bytes, places.ecu(), ID, &self.standard.ecu_id)?;
-        let (application, context) = match self.extended {
-            Some(extended) => (
-                ended(bytes, places.application(), ID, &extended.application_id)?,
-                ended(bytes, places.context(), ID, &extended.context_id)?,
-            ),
-            None => ('-', '-'),
-        };
-        Ok([stored, ecu, application, context])
-    }
-}
-
 fn item(bytes: &[u8], used: usize, storage: bool, message: &Message, why: bool) -> Line {
     let places = places(bytes, storage)?;
-    let headers = Headers::of(message);
-    let fields = headers.fields(bytes, &places)?;
+    let header = &message.header;
+    expect(usize::from(header.overall_length()) == places.declared, "the declared length")?;
+    let stored = storage_header(bytes, &places, message)?;
+    let order = if header.endianness == Endianness::Big { "B" } else { "L" };
+    let ecu = label(bytes, places.standard + 4, &header.ecu_id)?;
+    let extended = match &message.extended_header {
+        Some(extended) => extended_header(bytes, &places, extended)?,
+        None => "-".to_string(),
+    };
     let payload = payload(bytes, used, &places, message, why)?;
-    let line = format!("0 item used={used} {fields} pay={payload}");
-    if !why {
-        return Ok(line);
-    }
-    let [stored, ecu, application, context] = headers.ends(bytes, &places)?;
-    Ok(format!("{line} ends={stored},{ecu},{application},{context}"))
+    let ends = if why { ends(bytes, &places, message)? } else { String::new() };
+    Ok(format!(
+        "0 item used={used} sh={stored} ver={} end={order} ctr={} plen={} ecu={ecu} ses={} ts={} ext={extended} pay={payload}{ends}",
+        header.version,
+        header.message_counter,
+        header.payload_length,
+        or_dash(header.session_id),
+        or_dash(header.timestamp),
+    ))
 }
 
-fn storage_header(bytes: &[u8], places: &Places, stored: &StorageHeader) -> Line {
-    let id = text(bytes, places.stored_ecu(), stored.ecu_id.as_bytes())?;
+/// ` ends=STORED,ECU,APP,CTX`: why each identifier ended.
+fn ends(bytes: &[u8], places: &Places, message: &Message) -> Line {
+    let stored = match &message.storage_header {
+        Some(stored) => ended(bytes, places.skipped + 12, ID, &stored.ecu_id)?,
+        None => '-',
+    };
+    let ecu = label_ended(bytes, places.standard + 4, ID, &message.header.ecu_id)?;
+    let (application, context) = match &message.extended_header {
+        Some(extended) => (
+            ended(bytes, places.extended + 2, ID, &extended.application_id)?,
+            ended(bytes, places.extended + 6, ID, &extended.context_id)?,
+        ),
+        None => ('-', '-'),
+    };
+    Ok(format!(" ends={stored},{ecu},{application},{context}"))
+}
+
+fn storage_header(bytes: &[u8], places: &Places, message: &Message) -> Line {
+    let Some(stored) = &message.storage_header else {
+        return Ok("-".to_string());
+    };
+    let id = text(bytes, places.skipped + 12, stored.ecu_id.as_bytes())?;
     let time = &stored.timestamp;
     Ok(format!("{},{},.{id},skip{}", time.seconds, time.microseconds, places.skipped))
 }
 
 fn extended_header(bytes: &[u8], places: &Places, extended: &ExtendedHeader) -> Line {
-    let application = text(bytes, places.application(), extended.application_id.as_bytes())?;
-    let context = text(bytes, places.context(), extended.context_id.as_bytes())?;
+    let application = text(bytes, places.extended + 2, extended.application_id.as_bytes())?;
+    let context = text(bytes, places.extended + 6, extended.context_id.as_bytes())?;
     let kind = message_type(&extended.message_type);
     Ok(format!("v{},n{},{kind},.{application},.{context}", u8::from(extended.verbose), extended.argument_count))
 }

@@ -1,13 +1,8 @@
 //! Reading a request line. README.md has the rule in words; the program that
 //! answers for our port keeps the same rule.
 
-use crate::halves::{Change, NUMBERS};
-
 /// No longer line is read as a request.
 pub const LONGEST_LINE: usize = 300_000;
-
-/// No more numbers are changed in a line.
-pub const MOST_CHANGES: usize = 64;
 
 /// No larger table is asked of the index.
 const LARGEST_TABLE: u64 = 4096;
@@ -15,8 +10,6 @@ const LARGEST_TABLE: u64 = 4096;
 pub enum Request {
     Message { storage: bool, filter: Vec<u8>, bytes: Vec<u8> },
     Confined { storage: bool, filter: Vec<u8>, bytes: Vec<u8> },
-    Head { storage: bool, filter: Vec<u8>, bytes: Vec<u8> },
-    Rest { storage: bool, filter: Vec<u8>, bytes: Vec<u8>, later: Vec<u8>, changes: Vec<Change> },
     ZeroTerminated { size: u64, bytes: Vec<u8> },
     Skip { bytes: Vec<u8> },
     Consume { bytes: Vec<u8> },
@@ -58,19 +51,6 @@ fn read_words(words: &[&[u8]]) -> Option<Request> {
         [b"conf", storage, filter, bytes] => {
             Some(Request::Confined { storage: bit(storage)?, filter: hex(filter)?, bytes: hex(bytes)? })
         }
-        [b"head", storage, filter, bytes] => {
-            Some(Request::Head { storage: bit(storage)?, filter: hex(filter)?, bytes: hex(bytes)? })
-        }
-        [b"rest", storage, filter, bytes, later, ref changed @ ..] if changed.len() <= 1 => Some(Request::Rest {
-            storage: bit(storage)?,
-            filter: hex(filter)?,
-            bytes: hex(bytes)?,
-            later: hex(later)?,
-            changes: match changed.first() {
-                Some(word) => changes(word)?,
-                None => Vec::new(),
-            },
-        }),
         [b"zts", size, bytes] => Some(Request::ZeroTerminated { size: decimal(size)?, bytes: hex(bytes)? }),
         [b"skip", bytes] => Some(Request::Skip { bytes: hex(bytes)? }),
         [b"consume", bytes] => Some(Request::Consume { bytes: hex(bytes)? }),
@@ -127,18 +107,6 @@ fn decimal(word: &[u8]) -> Option<u64> {
 
 fn table_size(word: &[u8]) -> Option<usize> {
     decimal(word).filter(|&n| n <= LARGEST_TABLE).map(|n| n as usize)
-}
-
-/// PLACE:VALUE, one or more with commas between.
-fn changes(word: &[u8]) -> Option<Vec<Change>> {
-    let all: Vec<Change> = word.split(|&b| b == b',').map(change).collect::<Option<_>>()?;
-    (all.len() <= MOST_CHANGES).then_some(all)
-}
-
-fn change(word: &[u8]) -> Option<Change> {
-    let colon = word.iter().position(|&b| b == b':')?;
-    let place = decimal(&word[..colon]).filter(|&place| place < NUMBERS as u64)?;
-    Some((place as usize, decimal(&word[colon + 1..])?))
 }
 
 fn digit(b: u8) -> Option<u8> {

@@ -1,16 +1,12 @@
 -- Each contract fixes the answer. Assumes nothing.
-use Prim.Native.Nat.{ℕ}
 use mathlib.Core.Path.{◌≡◌, refl}
 use Rattle.wire.specs.Answer.{Ans}
-use Rattle.wire.proofs.Determined.{one_answer, back}
 use Rattle.payload.proofs.Determined.{whole, whole_answer}
 use Rattle.parse.specs.Message.{Answer}
-use Rattle.parse.specs.declared.Headers.{Headers}
 use Rattle.parse.proofs.Determined.{judged_back, judged_once}
-use Rattle.confined.specs.Confined.{inside_ans, halves_ans, confined_ans}
+use Rattle.confined.specs.Confined.{inside_ans, confined_ans}
 use Rattle.confined.specs.declared.ConfinedMessage.{ConfinedMessage}
 use Rattle.confined.specs.declared.InsideAns.{InsideAns}
-use Rattle.confined.specs.declared.HalvesAns.{HalvesAns}
 use Rattle.confined.specs.declared.ConfinedAns.{ConfinedAns}
 
 inside_back : (r : InsideAns) → whole (λ a b. InsideAns.Done (record { v = a; next = b })) InsideAns.Need InsideAns.Hickup InsideAns.Broken (inside_ans r) ≡ r
@@ -21,20 +17,6 @@ inside_back InsideAns.Broken = refl
 
 pub inside_determined : {r r' : InsideAns} {x : Ans ConfinedMessage} → inside_ans r ≡ x → inside_ans r' ≡ x → r ≡ r'
 inside_determined = whole_answer inside_ans (λ a b. InsideAns.Done (record { v = a; next = b })) InsideAns.Need InsideAns.Hickup InsideAns.Broken inside_back
-
-abbrev to_inside : Ans ConfinedMessage → InsideAns
-to_inside = whole (λ a b. InsideAns.Done (record { v = a; next = b })) InsideAns.Need InsideAns.Hickup InsideAns.Broken
-
-abbrev to_halves : Headers × Ans ConfinedMessage → ℕ → HalvesAns
-to_halves p n = HalvesAns.Done (record { heads = record { v = p.0; next = n }; read = to_inside p.1 })
-
-halves_back : (r : HalvesAns) → back to_halves HalvesAns.Need HalvesAns.Hickup (halves_ans r) ≡ r
-halves_back (HalvesAns.Done g) = rw (inside_back g.read)
-halves_back (HalvesAns.Need n) = refl
-halves_back (HalvesAns.Hickup n) = refl
-
-pub halves_determined : {r r' : HalvesAns} {x : Ans (Headers × Ans ConfinedMessage)} → halves_ans r ≡ x → halves_ans r' ≡ x → r ≡ r'
-halves_determined = one_answer halves_ans to_halves HalvesAns.Need HalvesAns.Hickup halves_back
 
 abbrev to_confined : Answer ConfinedMessage → ConfinedAns
 to_confined = judged_back ConfinedAns.BadFilter ConfinedAns.RetiredTag (λ a b. ConfinedAns.Done (record { v = a; next = b })) ConfinedAns.Need ConfinedAns.Hickup ConfinedAns.Broken

@@ -10,7 +10,6 @@ use Rattle.parse.specs.declared.Headers.{Headers}
 use Rattle.parse.specs.declared.ParsedMessage.{ParsedMessage}
 use Rattle.confined.specs.declared.ConfinedMessage.{ConfinedMessage}
 use Rattle.confined.specs.declared.InsideAns.{InsideAns}
-use Rattle.confined.specs.declared.HalvesAns.{HalvesAns}
 use Rattle.confined.specs.declared.ConfinedAns.{ConfinedAns}
 
 -- what a rule answers that was shown a part of the bytes alone: the part is used up, however early the value ends, and bytes that are lacking there never
@@ -30,14 +29,11 @@ unfoldable pub inside_of_lem : ParsedMessage → ConfinedMessage
 inside_of_lem (ParsedMessage.Item m) = ConfinedMessage.Item m
 inside_of_lem (ParsedMessage.FilteredOut n) = ConfinedMessage.FilteredOut n
 
-abbrev pub inside_by : Parser ParsedMessage → Parser ConfinedMessage
-inside_by p = do
-  m ← p
-  ret (inside_of_lem m)
-
 -- what follows the headers, of whatever bytes it is shown
 unfoldable pub inside : Headers → Parser ConfinedMessage
-inside h = inside_by (body h)
+inside h = do
+  m ← body h
+  ret (inside_of_lem m)
 
 abbrev pub overrun : ℕ → ConfinedMessage
 overrun n = ConfinedMessage.Overrun n
@@ -50,10 +46,6 @@ confined_body_of h = confined h.header.payload_length (overrun h.header.payload_
 unfoldable pub confined_message_of : List ℕ → Filter → Bool → Parser ConfinedMessage
 confined_message_of f filter stored = routed f filter stored >>= confined_body_of
 
--- both halves with their answers: the headers, and what that gives behind them
-unfoldable pub confined_halves_of : List ℕ → Filter → Bool → Parser (Headers × Ans ConfinedMessage)
-confined_halves_of f filter stored = routed f filter stored >>= (λ h s at. done (h, confined_body_of h s at) at)
-
 -- step 1 before anything else
 unfoldable pub confined_message_of_lem : List ℕ → Bool → List ℕ → Answer ConfinedMessage
 confined_message_of_lem f stored s = judged (λ filter. confined_message_of f filter stored s 0) (filter_of f)
@@ -64,11 +56,6 @@ inside_ans (InsideAns.Done g) = done g.v g.next
 inside_ans (InsideAns.Need n) = need n
 inside_ans (InsideAns.Hickup r) = hickup r
 inside_ans InsideAns.Broken = broken
-
-abbrev pub halves_ans : HalvesAns → Ans (Headers × Ans ConfinedMessage)
-halves_ans (HalvesAns.Done g) = done (g.heads.v, inside_ans g.read) g.heads.next
-halves_ans (HalvesAns.Need n) = need n
-halves_ans (HalvesAns.Hickup r) = hickup r
 
 abbrev pub confined_ans : ConfinedAns → Answer ConfinedMessage
 confined_ans ConfinedAns.BadFilter = Answer.bad_filter

@@ -1,7 +1,9 @@
 -- A turn of the call by values: what is due. The functions of the crate say these; that the loop which does them is the call is proved.
 use Rattle.std.specs.Prelude.{ℕ, ◌+◌, ◌≤◌, ◌<◌, true, false, List, length, drop, ltb, leb}
 use Rattle.wire.specs.Parser.{pick}
-use Rattle.filter.specs.Filter.{filter_of, no_filter_of}
+use Rattle.headertype.specs.declared.OptRange.{OptRange}
+use Rattle.messageinfo.specs.declared.OptLevel.{OptLevel}
+use Rattle.filter.specs.Filter.{filter_of}
 use Rattle.filter.specs.declared.Filter.{Filter}
 use Rattle.filter.specs.declared.FilterAns.{FilterAns}
 use Rattle.walk.specs.Walk.{Step, Wait, Take, entry}
@@ -12,7 +14,16 @@ use Rattle.index.specs.declared.End.{End}
 use Rattle.entries.specs.declared.Turn.{Turn}
 use Rattle.entries.specs.Form.{entry_of}
 
--- the call ends, with this answer; the filter is of no account then
+-- what stands in a turn that ends, where it is of no account
+abbrev pub no_filter_of : Filter
+no_filter_of = record {
+  min_log_level = OptLevel.Absent;
+  app_ids = OptRange.Absent;
+  ecu_ids = OptRange.Absent;
+  context_ids = OptRange.Absent;
+}
+
+-- the call ends, with this answer
 abbrev pub stop_of : State → ℕ → End → Turn
 stop_of st taken e = record {
   go = false;

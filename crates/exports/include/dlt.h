@@ -15,9 +15,9 @@
 
 /* The number of this interface: it goes up when a size, a place, an answer or a call here changes. 2: texts say why they ended; before it a message had 33
    numbers and an argument 23. 3: a filter with a count is answered DLT_RETIRED_TAG; before it such a filter was read. 4: an entry may be an overrun; before it
-   the index read arguments past the declared end. 5: dlt_headers and dlt_payload, and the answer DLT_MISMATCH, are new; nothing else changed. An archive tells
-   its sizes itself: dlt_message, dlt_headers and dlt_argument, asked with out_len 0, answer DLT_SHORT_OUT with them. */
-#define DLT_INTERFACE 5
+   the index read arguments past the declared end. An archive tells its sizes itself: dlt_message and dlt_argument, asked with out_len 0, answer
+   DLT_SHORT_OUT with them. */
+#define DLT_INTERFACE 4
 
 /* An answer's number. With DLT_INCOMPLETE `value` is the need (0: unknown): of dlt_message fewer bytes never help, and exactly so many decide it if the
    headers are there and the message isn't verbose or the filter drops it (crates/worth). With DLT_HICKUP it is the reason, with DLT_SHORT_OUT how many numbers
@@ -33,12 +33,11 @@
 #define DLT_FULL 7
 #define DLT_PAUSED 8
 #define DLT_RETIRED_TAG 13              /* the filter keeps every rule but has an app or a context count (tag 5 or 6): the program rewriter cuts it off */
-#define DLT_MISMATCH 14                 /* dlt_payload: dlt_headers doesn't give these numbers for these bytes */
 #define DLT_SHORT_OUT 15
 
 /* A Hickup's reason: these six come out, each from the calls named, and from no other (crates/reasons). There is no 3: every message info is accepted. */
-#define DLT_HICKUP_LENGTH 1             /* the declared length is below the headers: dlt_message, dlt_headers, dlt_consume_msg */
-#define DLT_HICKUP_TYPE_INFO 2          /* a type info word is no type: dlt_message, dlt_payload, dlt_argument, dlt_raw_value, dlt_construct_arguments, dlt_signal */
+#define DLT_HICKUP_LENGTH 1             /* the declared length is below the headers: dlt_message, dlt_consume_msg */
+#define DLT_HICKUP_TYPE_INFO 2          /* a type info word is no type: dlt_message, dlt_argument, dlt_raw_value, dlt_construct_arguments, dlt_signal */
 #define DLT_HICKUP_PATTERN 4            /* the pattern is missing: dlt_consume_msg */
 #define DLT_HICKUP_SIGNAL_SHORT 5       /* signal data is too short: dlt_construct_arguments, dlt_signal */
 #define DLT_HICKUP_SIGNAL_TEXT 6        /* a signal string is not UTF-8: the same two */
@@ -91,16 +90,6 @@ typedef struct {
 #define DLT_MESSAGE_APPLICATION_ENDED 35
 #define DLT_MESSAGE_CONTEXT_ENDED 36
 
-/* What dlt_headers writes: up to the context id's length, place 27, the numbers stand where dlt_message has them, of a message that the filter drops too.
-   DLT_MESSAGE_FILTERED is the filter's verdict, 1 if it drops the message. Then come: */
-#define DLT_HEADERS_SIZE 34
-#define DLT_HEADERS_LENGTH 28           /* the declared length, from the standard header on */
-#define DLT_HEADERS_PAYLOAD 29          /* where the payload begins; `used` of the answer is the same */
-#define DLT_HEADERS_STORED_ECU_ENDED 30 /* why each identifier ended */
-#define DLT_HEADERS_ECU_ENDED 31
-#define DLT_HEADERS_APPLICATION_ENDED 32
-#define DLT_HEADERS_CONTEXT_ENDED 33
-
 /* What dlt_argument and dlt_signal write where there is an argument (value 1): the cursor to ask next with, and the argument. */
 #define DLT_ARGUMENT_SIZE 26
 #define DLT_ARGUMENT_NEXT 0             /* where the next stands */
@@ -136,17 +125,6 @@ typedef struct {
 
 /* One message at the front of the bytes, under the filter `f` (document 01, "Filter bytes"; length 0: none). */
 dlt_answer dlt_message(const uint8_t *s, size_t s_len, const uint8_t *f, size_t f_len, bool with_storage_header, uint64_t *out, size_t out_len);
-
-/* The first half of dlt_message, for a host that routes: headers, length and filter. It answers DLT_BAD_FILTER, DLT_RETIRED_TAG, DLT_INCOMPLETE, DLT_HICKUP with
-   DLT_HICKUP_LENGTH, or DLT_DONE; never DLT_UNRECOVERABLE, since the payload is not looked at. All declared bytes are there then. */
-dlt_answer dlt_headers(const uint8_t *s, size_t s_len, const uint8_t *f, size_t f_len, bool with_storage_header, uint64_t *out, size_t out_len);
-
-/* The second half: the numbers that dlt_headers gave, and the same bytes, or these with more behind them. After both `out` holds what dlt_message would leave,
-   and the answer is dlt_message's. The first DLT_HEADERS_SIZE of `heads` count. Numbers that dlt_headers doesn't give for these bytes, or fewer of them, are
-   DLT_MISMATCH, told before the verdict is looked at: other bytes, fewer than declared, junk that is gone or new. The verdict, DLT_MESSAGE_FILTERED, is taken as
-   it is handed over, since there is no filter here: with 1 the answer is the payload length alone, whatever the payload; above 1 it is DLT_MISMATCH. `heads` is
-   only read; as every slice that is read, it must not overlap `out`. */
-dlt_answer dlt_payload(const uint8_t *s, size_t s_len, const uint64_t *heads, size_t heads_len, uint64_t *out, size_t out_len);
 
 /* The next argument of a list by its cursor (`at`, `left`, `big`): value 1 and the numbers, or value 0 at the end of the list. The bytes are those that
    the message was read from. Of a network trace only raw values are kept: its cursor belongs to dlt_raw_value, and here it would give arguments that are

@@ -1,5 +1,3 @@
 pub mod Reading
 mod Outlined
-pub mod Halves
-pub mod Row
 pub mod Determined

@@ -32,12 +32,10 @@ use Rattle.payload.specs.declared.PayloadContent.{PayloadContent}
 use Rattle.parse.specs.Message.{item_of}
 use Rattle.outline.specs.There.{behind, id_if, number_if, standard_at, extended_place_of, extended_at, extended_if, stored_at}
 use Rattle.outline.specs.declared.Outline.{Outline}
-use Rattle.outline.proofs.There.{id_there, declared_length_lem}
-use Rattle.numbers.specs.Layout.{one_if_of, order_number, text_numbers, num_numbers, storage_numbers, front_numbers, standard_numbers, extended_numbers, payload_numbers, ended_number_of, text_end_of, stored_end_of, application_end_of, context_end_of, lead_numbers, item_numbers, message_numbers, message_laid}
+use Rattle.outline.proofs.There.{id_there}
+use Rattle.numbers.specs.Layout.{one_if_of, order_number, text_numbers, num_numbers, storage_numbers, front_numbers, standard_numbers, extended_numbers, payload_numbers, ended_number_of, text_end_of, stored_end_of, application_end_of, context_end_of, lead_numbers}
 use Rattle.numbers.specs.Outlined.{outlined_item, outlined_laid}
-use Rattle.numbers.specs.Heads.{behind_numbers, row_size, row_numbers, outlined_heads, outlined_heads_laid}
-use Rattle.numbers.specs.declared.Lengths.{Lengths}
-use Rattle.numbers.proofs.Rows.{ends_row, standard_row, lead_row, all_row, heads_row, heads_short, message_short}
+use Rattle.numbers.proofs.Rows.{ends_row, standard_row, lead_row, item_row, message_short}
 
 -- ---- fields that are there
 module _ (s : List ℕ) (at : ℕ) where
@@ -181,7 +179,7 @@ pub front_row_there : (T X : List ℕ) (s : List ℕ) (at t n c : ℕ) → c ≡
 unfolding front_numbers standard_at header_of_lem
 front_row_there T X s at t n c e h = h ∙ rw (order_bit t, one_bit 1 t, e)
 
-pub standard_row_there : (T A B C D : List ℕ) (s : List ℕ) (at t n p q : ℕ) → 34 ≤ length T → p ≡ behind (flag 4 t) (at + 4) → q ≡ behind (flag 8 t) p
+pub standard_row_there : (T A B C D : List ℕ) (s : List ℕ) (at t n p q : ℕ) → 37 ≤ length T → p ≡ behind (flag 4 t) (at + 4) → q ≡ behind (flag 8 t) p
     → A ≡ over T 8 (front_numbers (standard_at t n s at)) → B ≡ over A 12 (text_numbers (id_if (flag 4 t) s (at + 4))) → C ≡ over B 15 (num_numbers (number_if (flag 8 t) s p))
     → D ≡ over C 17 (num_numbers (number_if (flag 16 t) s q)) → D ≡ over T 8 (standard_numbers (standard_at t n s at))
 unfolding standard_at header_of_lem
@@ -190,75 +188,40 @@ standard_row_there T A B C D s at t n p q fits e f a b c d =
     (d ∙ ap (λ (m : ℕ). over C 17 (num_numbers (number_if (flag 16 t) s m))) (f ∙ ap (behind (flag 8 t)) e))
 
 -- what the calls of `put_lead_at` leave: m is what a call gave for the payload length
-pub lead_row_there : (T A B C : List ℕ) (s : List ℕ) (i t n m first : ℕ) → 34 ≤ length T → m ≡ n - all_headers t → A ≡ over T 0 (first ∷ m ∷ [])
-    → B ≡ over A 2 (storage_numbers (stored_at s i)) → C ≡ over B 8 (standard_numbers (standard_at t n s (i + 16))) → C ≡ over T 0 (lead_numbers first (stored_at s i) (standard_at t n s (i + 16)))
+pub lead_row_there : (T A B C : List ℕ) (s : List ℕ) (i t n m : ℕ) → 37 ≤ length T → m ≡ n - all_headers t → A ≡ over T 0 (0 ∷ m ∷ [])
+    → B ≡ over A 2 (storage_numbers (stored_at s i)) → C ≡ over B 8 (standard_numbers (standard_at t n s (i + 16))) → C ≡ over T 0 (lead_numbers (stored_at s i) (standard_at t n s (i + 16)))
 unfolding standard_at header_of_lem
-lead_row_there T A B C s i t n m first fits e a b c =
-    lead_row T A B C fits first (stored_at s i) (standard_at t n s (i + 16)) (a ∙ ap (λ (m : ℕ). over T 0 (first ∷ m ∷ [])) e) b c
+lead_row_there T A B C s i t n m fits e a b c = lead_row T A B C fits (stored_at s i) (standard_at t n s (i + 16)) (a ∙ ap (λ (m : ℕ). over T 0 (0 ∷ m ∷ [])) e) b c
 
--- a is what a call gave for the length of all headers
-module _ (a t n : ℕ) (e : a ≡ all_headers t) where
-  pub declared_more : a ≤ n → n ≡ all_headers t + (n - all_headers t)
-  declared_more h = omega (arith, e)
+-- ---- the whole: l is what a call gave for the bytes from the pattern on, a the place of the extended header
+module _ (T : List ℕ) (s : List ℕ) (o : Outline) (p : PayloadContent) (l : ℕ) (is-left : l ≡ length s - o.place) where
+  abbrev t : ℕ
+  t = o.header_type
 
-  pub declared_less : n < a → a ≡ all_headers t + (n - all_headers t)
-  declared_less h = omega (arith, e)
+  pub outlined_lacks : l < 42 → T ≡ outlined_laid T s o p
+  unfolding outlined_laid
+  outlined_lacks h = rw (lt-leb 42 (length s - o.place) (rw (← is-left) h))
 
--- ---- the whole: a and end are what calls gave for the place of the extended header and that of the ends, w to z for why the identifiers ended
-pub all_row_at : (T A B C D s : List ℕ) (o : Outline) (l : Lengths) (p : PayloadContent) (first a end w x y z : ℕ) → row_size l ≤ length T → a ≡ extended_place_of o.header_type (o.place + 16)
-    → A ≡ over T 0 (lead_numbers first (stored_at s o.place) (standard_at o.header_type o.length s (o.place + 16))) → B ≡ over A 19 (extended_numbers (extended_if (flag 1 o.header_type) s a))
-    → C ≡ over B 28 (behind_numbers l p) → end ≡ 28 + length (behind_numbers l p)
-    → w ≡ stored_end_of (stored_at s o.place) → x ≡ text_end_of (standard_at o.header_type o.length s (o.place + 16)).ecu_id
-    → y ≡ application_end_of (extended_if (flag 1 o.header_type) s a) → z ≡ context_end_of (extended_if (flag 1 o.header_type) s a) → D ≡ over C end (w ∷ x ∷ y ∷ z ∷ [])
-    → D ≡ over T 0 (row_numbers first (outlined_heads s o).storage_header (outlined_heads s o).header (outlined_heads s o).extended_header (behind_numbers l p))
-unfolding outlined_heads
-all_row_at T A B C D s o l p first a end w x y z fits e p1 p2 p3 en q1 q2 q3 q4 p4 =
-    let t = o.header_type in
-    let place : ℕ → OptExtended = λ k. extended_if (flag 1 t) s k in
-    let head = standard_at t o.length s (o.place + 16) in
-    all_row T A B C D (record {
-      storage_header = stored_at s o.place;
-      header = head;
-      extended_header = place (extended_place_of t (o.place + 16));
-      filtered = false;
-    }) l p first end fits p1 (p2 ∙ ap (λ (k : ℕ). over A 19 (extended_numbers (place k))) e) p3 en
-    (ends_row C D end (stored_at s o.place) head (place (extended_place_of t (o.place + 16))) w x y z q1 q2
-    (q3 ∙ ap (λ (k : ℕ). application_end_of (place k)) e) (q4 ∙ ap (λ (k : ℕ). context_end_of (place k)) e) p4)
+  pub outlined_short : 42 ≤ l → length T < 37 → T ≡ outlined_laid T s o p
+  unfolding outlined_laid
+  outlined_short h k = message_short T (outlined_item s o p) k ∙ rw (le-leb 42 (length s - o.place) (rw (← is-left) h))
 
--- an item, and headers: l is what a call gave for the bytes from the pattern on; none, m and v for no lengths, the declared length and the verdict
-module _ (T s : List ℕ) (o : Outline) (l : ℕ) (is-left : l ≡ length s - o.place) where
-  module _ (p : PayloadContent) where
-    pub outlined_lacks : l < 42 → T ≡ outlined_laid T s o p
-    unfolding outlined_laid
-    outlined_lacks h = rw (lt-leb 42 (length s - o.place) (rw (← is-left) h))
+  -- w to z are what the calls gave for why the identifiers ended
+  pub outlined-row : (A B C D : List ℕ) (a w x y z : ℕ) → 42 ≤ l → 37 ≤ length T → a ≡ extended_place_of t (o.place + 16)
+      → A ≡ over T 0 (lead_numbers (stored_at s o.place) (standard_at t o.length s (o.place + 16))) → B ≡ over A 19 (extended_numbers (extended_if (flag 1 t) s a)) → C ≡ over B 28 (payload_numbers p)
+      → w ≡ stored_end_of (stored_at s o.place) → x ≡ text_end_of (standard_at t o.length s (o.place + 16)).ecu_id → y ≡ application_end_of (extended_if (flag 1 t) s a) → z ≡ context_end_of (extended_if (flag 1 t) s a)
+      → D ≡ over C 33 (w ∷ x ∷ y ∷ z ∷ []) → D ≡ outlined_laid T s o p
+  unfolding outlined_laid outlined_item item_of
+  outlined-row A B C D a w x y z h fits e p1 p2 p3 q1 q2 q3 q4 p4 =
+      let place : ℕ → OptExtended = λ m. extended_if (flag 1 t) s m in
+      item_row T A B C fits D (record {
+        storage_header = stored_at s o.place;
+        header = standard_at t o.length s (o.place + 16);
+        extended_header = extended_if (flag 1 t) s (extended_place_of t (o.place + 16));
+        filtered = false;
+      }) p p1 (p2 ∙ ap (λ (m : ℕ). over A 19 (extended_numbers (place m))) e) p3
+      (ends_row C D (stored_at s o.place) (standard_at t o.length s (o.place + 16)) (place (extended_place_of t (o.place + 16))) w x y z q1 q2
+      (q3 ∙ ap (λ (m : ℕ). application_end_of (place m)) e) (q4 ∙ ap (λ (m : ℕ). context_end_of (place m)) e) p4)
+      ∙ rw (le-leb 42 (length s - o.place) (rw (← is-left) h))
 
-    pub outlined_short : 42 ≤ l → length T < 37 → T ≡ outlined_laid T s o p
-    unfolding outlined_laid
-    outlined_short h k = message_short T (outlined_item s o p) k ∙ rw (le-leb 42 (length s - o.place) (rw (← is-left) h))
-
-    pub item_row_at : (X : List ℕ) (none : Lengths) → 42 ≤ l → 37 ≤ length T → none ≡ record { alone = false; declared = 0; next = 0 }
-        → X ≡ over T 0 (row_numbers 0 (outlined_heads s o).storage_header (outlined_heads s o).header (outlined_heads s o).extended_header (behind_numbers none p)) → X ≡ outlined_laid T s o p
-    unfolding outlined_laid row_numbers message_laid message_numbers item_numbers outlined_item outlined_heads
-    item_row_at X none h k q e =
-        let z : X ≡ over T 0 (row_numbers 0 (outlined_heads s o).storage_header (outlined_heads s o).header (outlined_heads s o).extended_header (payload_numbers p)) = e ∙ rw q in
-        rw (le-leb 42 (length s - o.place) (rw (← is-left) h), le-leb 37 (length T) k) z
-
-  module _ (dropped : Bool) (n : ℕ) where
-    pub heads_lack : l < 42 → T ≡ outlined_heads_laid T s o dropped n
-    unfolding outlined_heads_laid
-    heads_lack h = rw (lt-leb 42 (length s - o.place) (rw (← is-left) h))
-
-    pub heads_short_at : 42 ≤ l → length T < 34 → T ≡ outlined_heads_laid T s o dropped n
-    unfolding outlined_heads_laid
-    heads_short_at h k = heads_short T dropped (outlined_heads s o) n k ∙ rw (le-leb 42 (length s - o.place) (rw (← is-left) h))
-
-    pub heads_row_at : (X : List ℕ) (p : PayloadContent) (m v : ℕ) → 42 ≤ l → 34 ≤ length T → o.header_type < 256
-        → m ≡ all_headers o.header_type + (o.length - all_headers o.header_type) → v ≡ one_if_of dropped
-        → X ≡ over T 0 (row_numbers v (outlined_heads s o).storage_header (outlined_heads s o).header (outlined_heads s o).extended_header (behind_numbers (record { alone = true; declared = m; next = n }) p))
-        → X ≡ outlined_heads_laid T s o dropped n
-    unfolding outlined_heads_laid outlined_heads
-    heads_row_at X p m v h k byte em ev e =
-        heads_row T dropped (outlined_heads s o) n X p m v k (em ∙ sym (declared_length_lem o.header_type o.length s (o.place + 16) byte)) ev e
-        ∙ rw (le-leb 42 (length s - o.place) (rw (← is-left) h))
-
-pub ruleset outlined = (byte_there, letter_zero, letter_else, four_letters_lem, three_letters, word_big, word_little, id_read, id_missing, behind_four, behind_none, behind_three, text_there, text_none, num_there, num_none, extended_row_there, extended_row_none, end_there, end_none, application_there, application_none, context_there, context_none, stored_end_there, ecu_end_there, stored_row_there, front_row_there, standard_row_there, lead_row_there, declared_more, declared_less, all_row_at, outlined_lacks, outlined_short, item_row_at, heads_lack, heads_short_at, heads_row_at)
+pub ruleset outlined = (byte_there, letter_zero, letter_else, four_letters_lem, three_letters, word_big, word_little, id_read, id_missing, behind_four, behind_none, behind_three, text_there, text_none, num_there, num_none, extended_row_there, extended_row_none, end_there, end_none, application_there, application_none, context_there, context_none, stored_end_there, ecu_end_there, stored_row_there, front_row_there, standard_row_there, lead_row_there, outlined_lacks, outlined_short, outlined-row)

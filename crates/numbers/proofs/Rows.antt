@@ -2,7 +2,6 @@
 use Prim.Native.Nat.{ℕ, ◌+◌, ◌≤◌, ◌<◌}
 use mathlib.Core.Path.{◌≡◌, refl, sym, ap, ◌∙◌}
 use mathlib.Core.Bool.{Bool, true, false}
-use Rattle.wire.specs.Parser.{pick}
 use mathlib.Core.List.{List, [], ◌∷◌, ◌++◌}
 use native.Mathlib.Numerals.{add-one, add-two, add-three, add-four, add_five, add_six, add_seven, add_eight}
 use native.Mathlib.Omega.{arith}
@@ -10,7 +9,6 @@ use lib.ListN.{length, set, length-append}
 use borrow.Author.Tests.{le-leb, lt-leb}
 use Rattle.table.specs.Over.{over}
 use Rattle.table.proofs.Laws.{stores, over_over}
-use Rattle.headertype.specs.HeaderType.{overall_length_of}
 use Rattle.headertype.specs.declared.OptNum.{OptNum}
 use Rattle.headertype.specs.declared.OptText.{OptText}
 use Rattle.headertype.specs.declared.StandardHeader.{StandardHeader}
@@ -28,8 +26,6 @@ use Rattle.parse.specs.declared.Headers.{Headers}
 use Rattle.parse.specs.declared.ParsedMessage.{ParsedMessage}
 use Rattle.messageinfo.specs.Kept.{control_number_of, type_number_of, subtype_number_of}
 use Rattle.numbers.specs.Layout.{one_if_of, order_number, text_numbers, num_numbers, storage_numbers, front_numbers, standard_numbers, extended_numbers, payload_numbers, text_end_of, stored_end_of, application_end_of, context_end_of, end_numbers, lead_numbers, item_numbers, message_numbers, message_laid}
-use Rattle.numbers.specs.Heads.{behind_numbers, row_size, row_numbers, heads_numbers, heads_laid}
-use Rattle.numbers.specs.declared.Lengths.{Lengths}
 
 module _ (T : List ℕ) (k : ℕ) where
   pub row2 : (a b : ℕ) → k + 2 ≤ length T → set (set T k a) (k + 1) b ≡ over T k (a ∷ b ∷ [])
@@ -156,13 +152,13 @@ unfolding front_numbers
 front_row T X h x y ex ey p = p ∙ rw (ex, ey)
 
 -- a to d are what calls gave for why the four identifiers ended
-pub ends_row : (T X : List ℕ) (k : ℕ) (o : OptStored) (h : StandardHeader) (x : OptExtended) (a b c d : ℕ) → a ≡ stored_end_of o → b ≡ text_end_of h.ecu_id → c ≡ application_end_of x → d ≡ context_end_of x
-    → X ≡ over T k (a ∷ b ∷ c ∷ d ∷ []) → X ≡ over T k (end_numbers o h x)
+pub ends_row : (T X : List ℕ) (o : OptStored) (h : StandardHeader) (x : OptExtended) (a b c d : ℕ) → a ≡ stored_end_of o → b ≡ text_end_of h.ecu_id → c ≡ application_end_of x → d ≡ context_end_of x
+    → X ≡ over T 33 (a ∷ b ∷ c ∷ d ∷ []) → X ≡ over T 33 (end_numbers o h x)
 unfolding end_numbers
-ends_row T X k o h x a b c d ea eb ec ed p = p ∙ rw (ea, eb, ec, ed)
+ends_row T X o h x a b c d ea eb ec ed p = p ∙ rw (ea, eb, ec, ed)
 
 -- what the calls of `put_standard` leave, one after another
-pub standard_row : (T A B C D : List ℕ) (h : StandardHeader) → 34 ≤ length T → A ≡ over T 8 (front_numbers h) → B ≡ over A 12 (text_numbers h.ecu_id)
+pub standard_row : (T A B C D : List ℕ) (h : StandardHeader) → 37 ≤ length T → A ≡ over T 8 (front_numbers h) → B ≡ over A 12 (text_numbers h.ecu_id)
     → C ≡ over B 15 (num_numbers h.session_id) → D ≡ over C 17 (num_numbers h.timestamp) → D ≡ over T 8 (standard_numbers h)
 unfolding standard_numbers front_numbers
 standard_row T A B C D h fits p q r s =
@@ -170,95 +166,36 @@ standard_row T A B C D h fits p q r s =
     (omega (arith, texts h.ecu_id)) (omega (arith, nums h.session_id)) (omega arith)
 
 -- what the calls of `put_lead` and of `put_item` leave
-pub leads : (first : ℕ) (o : OptStored) (h : StandardHeader) → length (lead_numbers first o h) ≡ 19
+pub leads : (o : OptStored) (h : StandardHeader) → length (lead_numbers o h) ≡ 19
 unfolding lead_numbers
-leads first o h =
-    let a : List ℕ = first ∷ h.payload_length ∷ [] in
+leads o h =
+    let a : List ℕ = 0 ∷ h.payload_length ∷ [] in
     let b = storage_numbers o in
     omega (arith, length-append a b, length-append (a ++ b) (standard_numbers h), storages o, standards h)
 
-module _ (T A B C : List ℕ) (fits : 34 ≤ length T) where
-  pub lead_row : (first : ℕ) (o : OptStored) (h : StandardHeader) → A ≡ over T 0 (first ∷ h.payload_length ∷ []) → B ≡ over A 2 (storage_numbers o) → C ≡ over B 8 (standard_numbers h)
-      → C ≡ over T 0 (lead_numbers first o h)
+module _ (T A B C : List ℕ) (fits : 37 ≤ length T) where
+  pub lead_row : (o : OptStored) (h : StandardHeader) → A ≡ over T 0 (0 ∷ h.payload_length ∷ []) → B ≡ over A 2 (storage_numbers o) → C ≡ over B 8 (standard_numbers h)
+      → C ≡ over T 0 (lead_numbers o h)
   unfolding lead_numbers
-  lead_row first o h p q r =
-      let a : List ℕ = first ∷ h.payload_length ∷ [] in
+  lead_row o h p q r =
+      let a : List ℕ = 0 ∷ h.payload_length ∷ [] in
       three_groups T A B C a (storage_numbers o) (standard_numbers h) 0 2 8 p q r refl (omega (arith, storages o)) (omega arith)
 
--- ---- what the calls of `put_behind` leave
-module _ (l : Lengths) (p : PayloadContent) where
-  behind_long : 28 + length (behind_numbers l p) + 4 ≡ row_size l
-  behind_long = by l.alone
-    where
-      by : (b : Bool) → 28 + length (pick b (l.declared ∷ l.next ∷ []) (payload_numbers p)) + 4 ≡ pick b 34 37
-      by true = refl
-      by false = omega (arith, payloads p)
+  pub item_row : (D : List ℕ) (h : Headers) (p : PayloadContent) → A ≡ over T 0 (lead_numbers h.storage_header h.header) → B ≡ over A 19 (extended_numbers h.extended_header)
+      → C ≡ over B 28 (payload_numbers p) → D ≡ over C 33 (end_numbers h.storage_header h.header h.extended_header) → D ≡ message_laid T (item_of h p)
+  unfolding message_laid message_numbers item_numbers item_of
+  item_row D h p a b c d =
+      rw (le-leb 37 (length T) fits)
+      (four_groups T A B C D (lead_numbers h.storage_header h.header) (extended_numbers h.extended_header) (payload_numbers p)
+      (end_numbers h.storage_header h.header h.extended_header) 0 19 28 33 a b c d
+      (omega (arith, leads h.storage_header h.header)) (omega (arith, extendeds h.extended_header)) (omega (arith, payloads p)) (omega arith))
 
-  module _ (T X : List ℕ) where
-    pub behind_alone : l.alone ≡ true → X ≡ over T 28 (l.declared ∷ l.next ∷ []) → X ≡ over T 28 (behind_numbers l p)
-    behind_alone q e = rw q e
-
-    pub behind_payload : l.alone ≡ false → X ≡ over T 28 (payload_numbers p) → X ≡ over T 28 (behind_numbers l p)
-    behind_payload q e = rw q e
-
-  pub end_alone : l.alone ≡ true → 30 ≡ 28 + length (behind_numbers l p)
-  end_alone q = rw q
-
-  pub end_payload : l.alone ≡ false → 33 ≡ 28 + length (behind_numbers l p)
-  end_payload q = rw q (omega (arith, payloads p))
-
-module _ (l : Lengths) where
-  pub last_alone : l.alone ≡ true → 30 + 4 ≡ row_size l
-  last_alone q = rw q
-
-  pub last_payload : l.alone ≡ false → 33 + 4 ≡ row_size l
-  last_payload q = rw q
-
-  pub room_alone : (n : ℕ) → l.alone ≡ true → row_size l ≤ n → 28 + 2 ≤ n
-  room_alone n q h = let z : 34 ≤ n = rw q at h in omega (arith, z)
-
-  pub room_payload : (n : ℕ) → l.alone ≡ false → row_size l ≤ n → 37 ≤ n
-  room_payload n q h = rw q at h
-
--- ---- and those of `put_row`: end is what a call gave
-pub all_row : (T A B C D : List ℕ) (h : Headers) (l : Lengths) (p : PayloadContent) (first end : ℕ) → row_size l ≤ length T
-    → A ≡ over T 0 (lead_numbers first h.storage_header h.header) → B ≡ over A 19 (extended_numbers h.extended_header) → C ≡ over B 28 (behind_numbers l p)
-    → end ≡ 28 + length (behind_numbers l p) → D ≡ over C end (end_numbers h.storage_header h.header h.extended_header)
-    → D ≡ over T 0 (row_numbers first h.storage_header h.header h.extended_header (behind_numbers l p))
-unfolding row_numbers
-all_row T A B C D h l p first end fits a b c e d =
-    four_groups T A B C D (lead_numbers first h.storage_header h.header) (extended_numbers h.extended_header) (behind_numbers l p)
-    (end_numbers h.storage_header h.header h.extended_header) 0 19 28 end a b c d
-    (omega (arith, leads first h.storage_header h.header)) (omega (arith, extendeds h.extended_header)) e (omega (arith, e, behind_long l p))
-
--- an item, and headers, where they fit: l is what a call gave for no lengths, m for the declared length, v for the verdict
-pub item_row : (T X : List ℕ) (h : Headers) (p : PayloadContent) (l : Lengths) → 37 ≤ length T → l ≡ record { alone = false; declared = 0; next = 0 }
-    → X ≡ over T 0 (row_numbers 0 h.storage_header h.header h.extended_header (behind_numbers l p)) → X ≡ message_laid T (item_of h p)
-unfolding row_numbers message_laid message_numbers item_numbers item_of
-item_row T X h p l fits q e =
-    let z : X ≡ over T 0 (row_numbers 0 h.storage_header h.header h.extended_header (payload_numbers p)) = e ∙ rw q in
-    rw (le-leb 37 (length T) fits) z
-
-pub item_room : (l : Lengths) (n : ℕ) → l ≡ record { alone = false; declared = 0; next = 0 } → 37 ≤ n → row_size l ≤ n
-item_room l n q h = rw q h
-
-module _ (T : List ℕ) (dropped : Bool) (h : Headers) (n : ℕ) where
-  pub heads_row : (X : List ℕ) (p : PayloadContent) (m v : ℕ) → 34 ≤ length T → m ≡ overall_length_of h.header → v ≡ one_if_of dropped
-      → X ≡ over T 0 (row_numbers v h.storage_header h.header h.extended_header (behind_numbers (record { alone = true; declared = m; next = n }) p)) → X ≡ heads_laid T dropped h n
-  unfolding heads_laid heads_numbers
-  heads_row X p m v fits em ev e = rw (le-leb 34 (length T) fits, ← em, ← ev) e
-
-  pub heads_short : length T < 34 → T ≡ heads_laid T dropped h n
-  unfolding heads_laid
-  heads_short l = rw (lt-leb 34 (length T) l)
-
--- ---- a message that was filtered out
-pub filtered_row : (T A : List ℕ) (n : ℕ) → 37 ≤ length T → A ≡ over T 0 (1 ∷ n ∷ []) → A ≡ message_laid T (ParsedMessage.FilteredOut n)
-unfolding message_laid message_numbers
-filtered_row T A n fits e = rw (le-leb 37 (length T) fits) e
+  pub filtered_row : (n : ℕ) → A ≡ over T 0 (1 ∷ n ∷ []) → A ≡ message_laid T (ParsedMessage.FilteredOut n)
+  unfolding message_laid message_numbers
+  filtered_row n e = rw (le-leb 37 (length T) fits) e
 
 pub message_short : (T : List ℕ) (p : ParsedMessage) → length T < 37 → T ≡ message_laid T p
 unfolding message_laid
 message_short T p h = rw (lt-leb 37 (length T) h)
 
-pub ruleset rows = (text_at, num_at, storage_at, extended_at_lem, payload_at, verbose_row, trace_row, control_row, extended_row, front_row, ends_row, standard_row, lead_row, behind_alone, behind_payload, end_alone, end_payload, last_alone, last_payload, all_row, item_row, heads_row, heads_short, filtered_row, message_short)
+pub ruleset rows = (text_at, num_at, storage_at, extended_at_lem, payload_at, verbose_row, trace_row, control_row, extended_row, front_row, ends_row, standard_row, lead_row, item_row, filtered_row, message_short)

@@ -97,13 +97,13 @@ context_end_of OptExtended.Absent = 0
 unfoldable pub end_numbers : OptStored → StandardHeader → OptExtended → List ℕ
 end_numbers o h x = stored_end_of o ∷ text_end_of h.ecu_id ∷ application_end_of x ∷ context_end_of x ∷ []
 
--- ---- a number and the payload length in front, of an item 0
-unfoldable pub lead_numbers : ℕ → OptStored → StandardHeader → List ℕ
-lead_numbers first o h = ((first ∷ h.payload_length ∷ []) ++ storage_numbers o) ++ standard_numbers h
+-- ---- an item: 0 and the payload length in front
+unfoldable pub lead_numbers : OptStored → StandardHeader → List ℕ
+lead_numbers o h = ((0 ∷ h.payload_length ∷ []) ++ storage_numbers o) ++ standard_numbers h
 
 unfoldable pub item_numbers : Message → List ℕ
 item_numbers m =
-    ((lead_numbers 0 m.storage_header m.header ++ extended_numbers m.extended_header) ++ payload_numbers m.payload)
+    ((lead_numbers m.storage_header m.header ++ extended_numbers m.extended_header) ++ payload_numbers m.payload)
     ++ end_numbers m.storage_header m.header m.extended_header
 
 -- a message that was filtered out: 1 and the payload length, and no more

@@ -2,4 +2,3 @@ pub mod Layout
 pub mod Outlined
 pub mod Arguments
 pub mod Raw
-pub mod Heads

@@ -1,6 +1,6 @@
 // Messages, arguments and raw values as numbers in a lent slice, for hosts that take no enum and no struct. specs/Layout.antt, specs/Arguments.antt and
 // specs/Raw.antt have the layout, number by number.
-ghost use Rattle.std.specs.Prelude.{◌≡◌, [], ◌∷◌, true, false, ◌+◌, ◌-◌, ◌≤◌, ◌<◌, length, get_or};
+ghost use Rattle.std.specs.Prelude.{◌≡◌, [], ◌∷◌, true, ◌+◌, ◌-◌, ◌≤◌, ◌<◌, length, get_or};
 ghost use Rattle.std.specs.Float.{binary32, binary64};
 ghost use Rattle.std.specs.Float.Ieee.{to_bits};
 ghost use Rattle.table.specs.Over.{over};
@@ -13,8 +13,6 @@ ghost use Rattle.messageinfo.specs.Level.{number};
 ghost use Rattle.parse.specs.Message.{item_of};
 ghost use Rattle.parse.specs.declared.ParsedMessage.{ParsedMessage};
 ghost use Rattle.numbers.specs.Layout.{one_if_of, order_number, text_numbers, num_numbers, storage_numbers, front_numbers, standard_numbers, extended_numbers, payload_numbers, ended_number_of, text_end_of, stored_end_of, application_end_of, context_end_of, end_numbers, lead_numbers, message_laid};
-ghost use Rattle.filter.specs.Ids.{all_same_of};
-ghost use Rattle.numbers.specs.Heads.{row_size, behind_numbers, row_numbers, heads_laid, heads_match, outlined_heads, outlined_heads_laid};
 ghost use Rattle.numbers.specs.Outlined.{outlined_laid};
 ghost use Rattle.numbers.specs.Arguments.{signed_bits_of, length_bits_of, width_bits, kind_number_of, kind_bits_of, coding_number_of, value_number_of, value_first_of, value_second_of, value_end_of, offset_width_of, offset_bits_of, kind_numbers, coding_numbers, point_numbers, value_numbers, type_numbers, name_numbers, content_numbers, argument_ends, argument_laid};
 ghost use Rattle.numbers.specs.Raw.{raw_laid};
@@ -35,14 +33,6 @@ use payload::PayloadContent;
 use reals::{Real32, Real64};
 use storage::OptStored;
 use wire::{Ended, Range, Text, TextAns};
-
-// What a row of numbers has behind the headers': of the headers alone the declared length and where the payload begins, of an item its payload.
-#[derive(Drop)]
-struct Lengths {
-    alone: bool,
-    declared: u64,
-    next: usize,
-}
 
 // ---- some numbers in a row, from place `at` on
 
@@ -305,7 +295,7 @@ fn put_num(out: &mut [u64], at: usize, o: OptNum)
 }
 
 fn put_storage(out: &mut [u64], o: OptStored)
-    requires { 34 ≤ length out.old }
+    requires { 37 ≤ length out.old }
     ensures { out.new ≡ over out.old 2 (storage_numbers o) }
 {
     match o {
@@ -330,7 +320,7 @@ fn put_storage(out: &mut [u64], o: OptStored)
 
 // The fields of the standard header that are always there.
 fn put_front(out: &mut [u64], h: StandardHeader)
-    requires { 34 ≤ length out.old }
+    requires { 37 ≤ length out.old }
     ensures { out.new ≡ over out.old 8 (front_numbers h) }
 {
     let endianness = h.endianness;
@@ -347,7 +337,7 @@ fn put_front(out: &mut [u64], h: StandardHeader)
 }
 
 fn put_standard(out: &mut [u64], h: StandardHeader)
-    requires { 34 ≤ length out.old }
+    requires { 37 ≤ length out.old }
     ensures { out.new ≡ over out.old 8 (standard_numbers h) }
 {
     let ecu = h.ecu_id;
@@ -360,7 +350,7 @@ fn put_standard(out: &mut [u64], h: StandardHeader)
 }
 
 fn put_extended(out: &mut [u64], o: OptExtended)
-    requires { 34 ≤ length out.old }
+    requires { 37 ≤ length out.old }
     ensures { out.new ≡ over out.old 19 (extended_numbers o) }
 {
     match o {
@@ -412,25 +402,25 @@ fn put_payload(out: &mut [u64], p: PayloadContent)
     }
 }
 
-// What stands before the extended header's numbers: a number, of an item 0, the payload length, storage and standard header.
-fn put_lead(out: &mut [u64], first: u64, stored: OptStored, h: StandardHeader)
-    requires { 34 ≤ length out.old }
-    ensures { out.new ≡ over out.old 0 (lead_numbers first stored h) }
+// What stands before the extended header's numbers: an item's 0, the payload length, storage and standard header.
+fn put_lead(out: &mut [u64], stored: OptStored, h: StandardHeader)
+    requires { 37 ≤ length out.old }
+    ensures { out.new ≡ over out.old 0 (lead_numbers stored h) }
 {
-    put2(out, 0, first, h.payload_length as u64);
+    put2(out, 0, 0, h.payload_length as u64);
     put_storage(out, stored);
     put_standard(out, h);
 }
 
-// Why each of the four identifiers ended, from place `at` on.
-fn put_ends(out: &mut [u64], at: usize, stored: OptStored, h: StandardHeader, extended: OptExtended)
-    requires { at + 4 ≤ length out.old }
-    ensures { out.new ≡ over out.old at (end_numbers stored h extended) }
+// Why each of the four identifiers ended.
+fn put_ends(out: &mut [u64], stored: OptStored, h: StandardHeader, extended: OptExtended)
+    requires { 37 ≤ length out.old }
+    ensures { out.new ≡ over out.old 33 (end_numbers stored h extended) }
 {
     let ecu = h.ecu_id;
     put4(
         out,
-        at,
+        33,
         stored_end(stored),
         text_end(ecu),
         application_end(extended),
@@ -438,70 +428,18 @@ fn put_ends(out: &mut [u64], at: usize, stored: OptStored, h: StandardHeader, ex
     );
 }
 
-// What stands behind the headers' numbers. Answers the place behind it.
-fn put_behind(out: &mut [u64], lengths: Lengths, content: PayloadContent) -> usize
-    requires { row_size lengths ≤ length out.old }
-    ensures { (out.new ≡ over out.old 28 (behind_numbers lengths content)) × (result ≡ 28 + length (behind_numbers lengths content)) × (result + 4 ≡ row_size lengths) }
-{
-    if lengths.alone {
-        put2(out, 28, lengths.declared, lengths.next as u64);
-        return 30;
-    }
-    put_payload(out, content);
-    33
-}
-
-// A whole row, where there is room, with a number in front.
-fn put_row(out: &mut [u64], first: u64, h: Headers, lengths: Lengths, content: PayloadContent)
-    requires { (34 ≤ length out.old) × (row_size lengths ≤ length out.old) }
-    ensures { out.new ≡ over out.old 0 (row_numbers first h.storage_header h.header h.extended_header (behind_numbers lengths content)) }
-{
-    let stored = h.storage_header;
-    let header = h.header;
-    let extended = h.extended_header;
-    put_lead(out, first, stored, header);
-    put_extended(out, extended);
-    let end = put_behind(out, lengths, content);
-    put_ends(out, end, stored, header, extended);
-}
-
-// Of an item there are no lengths, and of headers alone there is no payload.
-fn no_lengths() -> Lengths
-    ensures { result ≡ record { alone = false; declared = 0; next = 0 } }
-{
-    Lengths {
-        alone: false,
-        declared: 0,
-        next: 0,
-    }
-}
-
-fn no_payload() -> PayloadContent {
-    PayloadContent::NonVerbose(0, Range { start: 0, len: 0 })
-}
-
 // An item, of its headers and its payload. A slice that is too short is left as it is.
 pub fn put_item(out: &mut [u64], h: Headers, content: PayloadContent)
     ensures { out.new ≡ message_laid out.old (item_of h content) }
 {
     if 37 <= out.len() {
-        put_row(out, 0, h, no_lengths(), content);
-    }
-}
-
-// Its headers alone, with a verdict and where the payload begins, likewise.
-pub fn put_headers(out: &mut [u64], dropped: bool, h: Headers, next: usize)
-    ensures { out.new ≡ heads_laid out.old dropped h next }
-{
-    let header = h.header;
-    let declared = header.overall_length() as u64;
-    if 34 <= out.len() {
-        let lengths = Lengths {
-            alone: true,
-            declared,
-            next,
-        };
-        put_row(out, flag(dropped), h, lengths, no_payload());
+        let stored = h.storage_header;
+        let header = h.header;
+        let extended = h.extended_header;
+        put_lead(out, stored, header);
+        put_extended(out, extended);
+        put_payload(out, content);
+        put_ends(out, stored, header, extended);
     }
 }
 
@@ -617,18 +555,6 @@ fn payload_length(typ: u8, declared: u16) -> u16
     if all <= declared { declared - all } else { 0 }
 }
 
-// What is declared, or all headers if that is more.
-fn declared_length(typ: u8, declared: u16) -> u64
-    ensures { result ≡ all_headers typ + (declared - all_headers typ) }
-{
-    let all = headertype::calculate_all_headers_length(typ);
-    if all <= declared {
-        declared as u64
-    } else {
-        all as u64
-    }
-}
-
 // The answer of each group that has identifiers is why they ended.
 fn put_text_if(out: &mut [u64], n: usize, s: &[u8], at: usize, present: bool) -> u64
     requires { (n + 3 ≤ length out.old) × (at + 4 ≤ length s.now) }
@@ -659,7 +585,7 @@ fn put_num_if(out: &mut [u64], n: usize, s: &[u8], at: usize, present: bool)
 }
 
 fn put_stored_at(out: &mut [u64], s: &[u8], place: usize) -> u64
-    requires { (34 ≤ length out.old) × (place + 16 ≤ length s.now) }
+    requires { (37 ≤ length out.old) × (place + 16 ≤ length s.now) }
     ensures { (out.new ≡ over out.old 2 (storage_numbers (stored_at s.now place))) × (result ≡ stored_end_of (stored_at s.now place)) }
 {
     let seconds = word_at(s, place + 4, false);
@@ -681,7 +607,7 @@ fn put_stored_at(out: &mut [u64], s: &[u8], place: usize) -> u64
 }
 
 fn put_front_at(out: &mut [u64], s: &[u8], at: usize, typ: u8, declared: u16)
-    requires { (34 ≤ length out.old) × (at + 16 ≤ length s.now) }
+    requires { (37 ≤ length out.old) × (at + 16 ≤ length s.now) }
     ensures { out.new ≡ over out.old 8 (front_numbers (standard_at typ declared s.now at)) }
 {
     let counter = byte_at(s, at + 1);
@@ -696,7 +622,7 @@ fn put_front_at(out: &mut [u64], s: &[u8], at: usize, typ: u8, declared: u16)
 }
 
 fn put_standard_at(out: &mut [u64], s: &[u8], at: usize, typ: u8, declared: u16) -> u64
-    requires { (34 ≤ length out.old) × (at + 16 ≤ length s.now) }
+    requires { (37 ≤ length out.old) × (at + 16 ≤ length s.now) }
     ensures { (out.new ≡ over out.old 8 (standard_numbers (standard_at typ declared s.now at))) × (result ≡ text_end_of (standard_at typ declared s.now at).ecu_id) }
 {
     let session = behind_if(at + 4, typ / 4 % 2 == 1);
@@ -719,7 +645,7 @@ fn extended_place(typ: u8, at: usize) -> usize
 }
 
 fn put_extended_at(out: &mut [u64], s: &[u8], at: usize, present: bool) -> TwoEnds
-    requires { (34 ≤ length out.old) × (at + 10 ≤ length s.now) }
+    requires { (37 ≤ length out.old) × (at + 10 ≤ length s.now) }
     ensures { (out.new ≡ over out.old 19 (extended_numbers (extended_if present s.now at))) × (result.first ≡ application_end_of (extended_if present s.now at)) × (result.second ≡ context_end_of (extended_if present s.now at)) }
 {
     if present {
@@ -757,37 +683,15 @@ fn put_extended_at(out: &mut [u64], s: &[u8], at: usize, present: bool) -> TwoEn
     }
 }
 
-fn put_lead_at(out: &mut [u64], first: u64, s: &[u8], o: Outline) -> TwoEnds
-    requires { (34 ≤ length out.old) × (o.place + 42 ≤ length s.now) }
-    ensures { (out.new ≡ over out.old 0 (lead_numbers first (stored_at s.now o.place) (standard_at o.header_type o.length s.now (o.place + 16)))) × (result.first ≡ stored_end_of (stored_at s.now o.place)) × (result.second ≡ text_end_of (standard_at o.header_type o.length s.now (o.place + 16)).ecu_id) }
+fn put_lead_at(out: &mut [u64], s: &[u8], o: Outline) -> TwoEnds
+    requires { (37 ≤ length out.old) × (o.place + 42 ≤ length s.now) }
+    ensures { (out.new ≡ over out.old 0 (lead_numbers (stored_at s.now o.place) (standard_at o.header_type o.length s.now (o.place + 16)))) × (result.first ≡ stored_end_of (stored_at s.now o.place)) × (result.second ≡ text_end_of (standard_at o.header_type o.length s.now (o.place + 16)).ecu_id) }
 {
     let n = payload_length(o.header_type, o.length);
-    put2(out, 0, first, n as u64);
-    let stored_end = put_stored_at(out, s, o.place);
-    let ecu_end = put_standard_at(out, s, o.place + 16, o.header_type, o.length);
-    TwoEnds {
-        first: stored_end,
-        second: ecu_end,
-    }
-}
-
-// A whole row, where there is room, and all headers lie within the bytes, with a number in front.
-fn put_row_at(
-    out: &mut [u64],
-    first: u64,
-    s: &[u8],
-    o: Outline,
-    lengths: Lengths,
-    content: PayloadContent,
-)
-    requires { (34 ≤ length out.old) × (row_size lengths ≤ length out.old) × (o.place + 42 ≤ length s.now) }
-    ensures { out.new ≡ over out.old 0 (row_numbers first (outlined_heads s.now o).storage_header (outlined_heads s.now o).header (outlined_heads s.now o).extended_header (behind_numbers lengths content)) }
-{
-    let at = extended_place(o.header_type, o.place + 16);
-    let ecus = put_lead_at(out, first, s, o);
-    let names = put_extended_at(out, s, at, o.header_type / 1 % 2 == 1);
-    let end = put_behind(out, lengths, content);
-    put4(out, end, ecus.first, ecus.second, names.first, names.second);
+    put2(out, 0, 0, n as u64);
+    let first = put_stored_at(out, s, o.place);
+    let second = put_standard_at(out, s, o.place + 16, o.header_type, o.length);
+    TwoEnds { first, second }
 }
 
 // An item whose headers stand where an outline says. Where they don't all lie within the bytes, or the slice is too short, it is left as it is.
@@ -797,68 +701,16 @@ pub fn put_outlined(out: &mut [u64], s: &[u8], o: Outline, content: PayloadConte
     let rest = wire::left(s, o.place);
     if 42 <= rest {
         if 37 <= out.len() {
-            put_row_at(out, 0, s, o, no_lengths(), content);
+            let at = extended_place(o.header_type, o.place + 16);
+            let ecus = put_lead_at(out, s, o);
+            let names = put_extended_at(out, s, at, o.header_type / 1 % 2 == 1);
+            put_payload(out, content);
+            put4(out, 33, ecus.first, ecus.second, names.first, names.second);
         }
     }
 }
 
-// Its headers alone, with a verdict and where the payload begins, likewise.
-pub fn put_outlined_headers(out: &mut [u64], s: &[u8], o: Outline, dropped: bool, next: usize)
-    ensures { out.new ≡ outlined_heads_laid out.old s.now o dropped next }
-{
-    let seen = wire::left(s, o.place);
-    let declared = declared_length(o.header_type, o.length);
-    if 42 <= seen {
-        if 34 <= out.len() {
-            let lengths = Lengths {
-                alone: true,
-                declared,
-                next,
-            };
-            put_row_at(out, flag(dropped), s, o, lengths, no_payload());
-        }
-    }
-}
-
-// ---- whether numbers are those of headers
-
-// Room for a message's headers.
-fn heads_room() -> [u64; 34]
-    ensures { 34 ≡ length result }
-{
-    [0; 34]
-}
-
-// Whether the first `n` numbers of two slices are the same.
-fn same_numbers(a: &[u64], b: &[u64], n: usize) -> bool
-    requires { (n ≤ length a.now) × (n ≤ length b.now) }
-    ensures { result ≡ all_same_of n a.now 0 b.now 0 }
-{
-    let mut k: usize = 0;
-    while k < n {
-        if a[k] != b[k] {
-            return false;
-        }
-        k += 1;
-    }
-    true
-}
-
-// Whether the first numbers of `heads` are those of these headers, with a verdict and where the payload begins.
-pub fn headers_match(heads: &[u64], dropped: bool, h: Headers, next: usize) -> bool
-    ensures { result ≡ heads_match heads.now dropped h next }
-{
-    if 34 <= heads.len() {
-        let mut own = heads_room();
-        put_headers(&mut own, dropped, h, next);
-        return same_numbers(heads, &own, 34);
-    }
-    false
-}
-
-// ---- a message that the filter dropped
-
-// Its payload length alone.
+// A message that the filter dropped: its payload length alone.
 pub fn put_filtered(out: &mut [u64], n: u16)
     ensures { out.new ≡ message_laid out.old (ParsedMessage.FilteredOut n) }
 {

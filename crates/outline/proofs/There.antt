@@ -148,13 +148,11 @@ num_bit_lem : (b : Bool) (s : List ℕ) (at : ℕ) → num_bit_of (number_if b s
 num_bit_lem true s at = refl
 num_bit_lem false s at = refl
 
-pub declared_length_lem : (t n : ℕ) (s : List ℕ) (at : ℕ) → t < 256 → overall_length_of (standard_at t n s at) ≡ all_headers t + (n - all_headers t)
-unfolding standard_at header_of_lem
-declared_length_lem t n s at byte =
-    overall (standard_at t n s at) t byte (one_bit 1 t) (big_bit_lem t) (text_bit_lem (flag 4 t) s _ ∙ one_bit 4 t) (num_bit_lem (flag 8 t) s _ ∙ one_bit 8 t) (num_bit_lem (flag 16 t) s _ ∙ one_bit 16 t) refl
-
 pub declared_again : (t n : ℕ) (s : List ℕ) (at : ℕ) → t < 256 → all_headers t ≤ n → overall_length_of (standard_at t n s at) ≡ n
-declared_again t n s at byte h = declared_length_lem t n s at byte ∙ omega arith
+unfolding standard_at header_of_lem
+declared_again t n s at byte h =
+    overall (standard_at t n s at) t byte (one_bit 1 t) (big_bit_lem t) (text_bit_lem (flag 4 t) s _ ∙ one_bit 4 t) (num_bit_lem (flag 8 t) s _ ∙ one_bit 8 t) (num_bit_lem (flag 16 t) s _ ∙ one_bit 16 t) refl
+    ∙ omega arith
 
 -- where all headers end
 ext_end : (b : Bool) (at : ℕ) → pick b (at + 10) at ≡ at + one_if_of b * 10

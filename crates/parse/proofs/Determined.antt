@@ -7,15 +7,11 @@ use Rattle.wire.proofs.Determined.{one_answer, back}
 use Rattle.payload.proofs.Determined.{whole, whole_answer}
 use Rattle.parse.specs.Message.{Answer, headers_ans, parsed_ans, message_ans}
 use Rattle.parse.specs.Message.Answer.{bad_filter, retired_tag, answered}
-use Rattle.parse.specs.Halves.{Second, first_ans, second_ans}
-use Rattle.parse.specs.Halves.Second.{mismatch, given}
 use Rattle.parse.specs.declared.Headers.{Headers}
 use Rattle.parse.specs.declared.ParsedMessage.{ParsedMessage}
 use Rattle.parse.specs.declared.HeadersAns.{HeadersAns}
 use Rattle.parse.specs.declared.ParsedAns.{ParsedAns}
 use Rattle.parse.specs.declared.MessageAns.{MessageAns}
-use Rattle.parse.specs.declared.FirstAns.{FirstAns}
-use Rattle.parse.specs.declared.SecondAns.{SecondAns}
 
 headers_back : (r : HeadersAns) → back (λ a b. HeadersAns.Done (record { v = a; next = b })) HeadersAns.Need HeadersAns.Hickup (headers_ans r) ≡ r
 headers_back (HeadersAns.Done g) = refl
@@ -59,32 +55,3 @@ message_back MessageAns.Broken = refl
 
 pub message_determined : {r r' : MessageAns} {x : Answer ParsedMessage} → message_ans r ≡ x → message_ans r' ≡ x → r ≡ r'
 message_determined = judged_once message_ans to_message message_back
-
--- ---- the two halves; what no reading gives is of no account
-abbrev to_first : Answer Headers → FirstAns
-to_first = judged_back FirstAns.BadFilter FirstAns.RetiredTag (λ a b. FirstAns.Done (record { v = a; next = b })) FirstAns.Need FirstAns.Hickup FirstAns.BadFilter
-
-first_back : (r : FirstAns) → to_first (first_ans r) ≡ r
-first_back FirstAns.BadFilter = refl
-first_back FirstAns.RetiredTag = refl
-first_back (FirstAns.Done g) = refl
-first_back (FirstAns.Need n) = refl
-first_back (FirstAns.Hickup n) = refl
-
-pub first_determined : {r r' : FirstAns} {x : Answer Headers} → first_ans r ≡ x → first_ans r' ≡ x → r ≡ r'
-first_determined = judged_once first_ans to_first first_back
-
-abbrev to_second : Second → SecondAns
-to_second mismatch = SecondAns.Mismatch
-to_second (given x) =
-    judged_back SecondAns.Mismatch SecondAns.Mismatch (λ a b. SecondAns.Done (record { v = a; next = b })) SecondAns.Need SecondAns.Hickup SecondAns.Broken x
-
-second_back : (r : SecondAns) → to_second (second_ans r) ≡ r
-second_back SecondAns.Mismatch = refl
-second_back (SecondAns.Done g) = refl
-second_back (SecondAns.Need n) = refl
-second_back (SecondAns.Hickup n) = refl
-second_back SecondAns.Broken = refl
-
-pub second_determined : {r r' : SecondAns} {x : Second} → second_ans r ≡ x → second_ans r' ≡ x → r ≡ r'
-second_determined {r} {r'} e f = sym (second_back r) ∙ ap to_second (e ∙ sym f) ∙ second_back r'

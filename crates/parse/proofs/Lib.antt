@@ -1,4 +1,3 @@
 pub mod Reading
-pub mod Halves
 pub mod Determined
 pub mod Nothing

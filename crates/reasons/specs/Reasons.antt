@@ -14,8 +14,6 @@ use Rattle.signals.specs.Signals.{constructed, signal_turn}
 use Rattle.signals.specs.declared.SignalCursor.{SignalCursor}
 use Rattle.signals.specs.declared.SignalTurn.{SignalTurn}
 use Rattle.parse.specs.Message.{message_of, numbered_answer}
-use Rattle.parse.specs.Halves.{first_of_lem, second_of, numbered_second}
-use Rattle.parse.specs.declared.Headers.{Headers}
 use Rattle.parse.specs.declared.ParsedMessage.{ParsedMessage}
 use Rattle.confined.specs.Confined.{confined_message_of_lem}
 use Rattle.confined.specs.declared.ConfinedMessage.{ConfinedMessage}
@@ -46,13 +44,6 @@ message_call i = numbered_answer (message_of i.0 i.1 i.2)
 abbrev pub confined_call : List ℕ × Bool × List ℕ → Numbered ConfinedMessage
 confined_call i = numbered_answer (confined_message_of_lem i.0 i.1 i.2)
 
--- `first_half`: the same; `second_half`: the bytes, the headers that are handed over, the place of the payload
-abbrev pub first_call : List ℕ × Bool × List ℕ → Numbered Headers
-first_call i = numbered_answer (first_of_lem i.0 i.1 i.2)
-
-abbrev pub second_call : List ℕ × Headers × ℕ → Numbered ParsedMessage
-second_call i = numbered_second (second_of i.0 i.1 i.2)
-
 -- `Cursor::next` and `RawCursor::next`: the cursor, the bytes
 abbrev pub cursor_call : Cursor × List ℕ → Numbered Turn
 cursor_call i = numbered (turn i.0 i.1 i.0.at)
@@ -77,12 +68,6 @@ signal_call i = numbered (signal_turn i.1 i.0 i.2 i.0.at)
 -- ---- and their reasons
 abbrev pub message_reasons : List ℕ
 message_reasons = 1 ∷ 2 ∷ []
-
-abbrev pub first_reasons : List ℕ
-first_reasons = 1 ∷ []
-
-abbrev pub second_reasons : List ℕ
-second_reasons = 2 ∷ []
 
 abbrev pub argument_reasons : List ℕ
 argument_reasons = 2 ∷ []

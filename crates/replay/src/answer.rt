@@ -5,8 +5,7 @@ use crate::fields::Field;
 use crate::msg::Asked;
 use crate::writer::Out;
 use crate::{
-    args, consume, digits, fields, fwd, halves, indexed, len, mi, msg, retire, skip, ti, writer,
-    zts,
+    args, consume, digits, fields, fwd, indexed, len, mi, msg, retire, skip, ti, writer, zts,
 };
 
 // How many characters a line has at most.
@@ -60,12 +59,6 @@ fn by_kind(line: &[u8], body: &mut [u8], words: &mut [u32], out: &mut Out, at: u
     }
     if fields::is(line, kind, b"conf") {
         return msg::answer(line, end, Asked::Confined, body, out, at);
-    }
-    if fields::is(line, kind, b"head") {
-        return msg::answer(line, end, Asked::Headers, body, out, at);
-    }
-    if fields::is(line, kind, b"rest") {
-        return halves::rest(line, end, body, out, at);
     }
     if fields::is(line, kind, b"args") {
         return args::answer(line, end, false, body, words, out, at);

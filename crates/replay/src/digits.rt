@@ -155,13 +155,13 @@ pub fn hex_word(line: &[u8], f: Field) -> Word {
     Word::Value(n)
 }
 
-// Where a character stands next at `from` or behind it and before `end`: `end` where it doesn't.
-pub fn find(line: &[u8], c: u8, from: usize, end: usize) -> usize
+// Where the next comma stands at `from` or behind it and before `end`: `end` where there is none.
+fn comma(line: &[u8], from: usize, end: usize) -> usize
     ensures { from ≤ result }
 {
     let mut i = from;
     while i < end && i < line.len() {
-        if line[i] == c {
+        if line[i] == b',' {
             return i;
         }
         i += 1;
@@ -179,7 +179,7 @@ pub fn hex_words(line: &[u8], f: Field, words: &mut [u32]) -> usize {
     let mut start = f.start;
     let mut n = 0;
     while n < words.len() {
-        let next = find(line, b',', start, end);
+        let next = comma(line, start, end);
         match hex_word(
             line,
             Field {

@@ -2,8 +2,8 @@
 // a line, and writes an answer line to each. A line that is no request is answered `bad request`.
 //
 // - lines: reads blocks and finds the lines. The only loop over the input.
-// - answer: the line of one request, by its kind. zts, fwd, skip, consume, len, mi, ti, msg, conf, halves, args, indexed, retire: the kinds. Behind `why` zts, msg
-//   and args say why each text ended too.
+// - answer: the line of one request, by its kind. zts, fwd, skip, consume, len, mi, ti, msg, conf, args, indexed, retire: the kinds. Behind `why` zts, msg and args say
+//   why each text ended too.
 // - message, contents: a message, its payload and an argument as answers show them; pattern: how numbers become text.
 // - fields, digits: the words of a line, and the numbers and bytes in them.
 // - writer: text, numbers and bytes into a buffer that is written out whenever it is full.
@@ -19,7 +19,6 @@ mod contents;
 mod digits;
 mod fields;
 mod fwd;
-mod halves;
 mod indexed;
 mod len;
 mod lines;

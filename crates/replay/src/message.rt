@@ -3,33 +3,18 @@
 use crate::writer::Out;
 use crate::{contents, pattern, writer};
 use parse::{Headers, Message};
-use payload::PayloadContent;
 
 // What stands behind `used`, of a message that was read from `s` and ends at `end`; and why its texts ended, if `why`.
 pub fn message(out: &mut Out, at: usize, s: &[u8], m: Message, end: usize, why: bool) -> usize {
     let mut numbers = [0u64; 37];
     let its_payload = m.payload;
     put(&mut numbers, m);
-    let done = by_numbers(out, at, s, its_payload, &numbers, end, why);
+    let headed = headers(out, at, s, &numbers);
+    let done = contents::payload(out, headed, s, its_payload, &numbers, end, why);
     if why {
         return pattern::fill(out, done, b" ends=:,:,:,:", &numbers, 33, s);
     }
     done
-}
-
-// The same by its numbers, with its payload's kind and cursor.
-pub fn by_numbers(
-    out: &mut Out,
-    at: usize,
-    s: &[u8],
-    p: PayloadContent,
-    m: &[u64],
-    end: usize,
-    why: bool,
-) -> usize {
-    let headed = headers(out, at, s, m);
-    let begun = writer::literal(out, headed, b" pay=");
-    contents::payload(out, begun, s, p, m, end, why)
 }
 
 fn put(numbers: &mut [u64], m: Message) {
@@ -46,13 +31,14 @@ fn put(numbers: &mut [u64], m: Message) {
     numbers::put_item(numbers, heads, content);
 }
 
-// `sh=SECS,MICROS,.ID,skipN ver=N end=L ctr=N plen=N ecu=.ID ses=N ts=N ext=vV,nCOUNT,TYPE,.APP,.CTX`
-pub fn headers(out: &mut Out, at: usize, s: &[u8], m: &[u64]) -> usize {
+// `sh=SECS,MICROS,.ID,skipN ver=N end=L ctr=N plen=N ecu=.ID ses=N ts=N ext=vV,nCOUNT,TYPE,.APP,.CTX pay=`
+fn headers(out: &mut Out, at: usize, s: &[u8], m: &[u64]) -> usize {
     let stored = if_flag(out, at, b" sh=#,#,.@,skip#", b" sh=-", m, 2, s);
     let versioned = pattern::fill(out, stored, b" ver=# end=!~ ctr=#", m, 8, s);
     let measured = pattern::fill(out, versioned, b" plen=#", m, 1, s);
     let named = pattern::fill(out, measured, b" ecu=? ses=% ts=%", m, 12, s);
-    if_flag(out, named, b" ext=v#,n#,&,.@,.@", b" ext=-", m, 19, s)
+    let extended = if_flag(out, named, b" ext=v#,n#,&,.@,.@", b" ext=-", m, 19, s);
+    writer::literal(out, extended, b" pay=")
 }
 
 // A pattern with the numbers behind a flag, or else another text.

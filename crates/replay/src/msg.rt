@@ -1,8 +1,7 @@
 // `msg STORAGE FILTER BYTES`: one message, dlt_message; behind `why` with why its texts ended. `conf STORAGE FILTER BYTES`: the confined reading of it.
-// `head STORAGE FILTER BYTES`: its headers alone.
 use crate::digits::Flag;
 use crate::writer::Out;
-use crate::{conf, digits, fields, halves, message, writer};
+use crate::{conf, digits, fields, message, writer};
 use parse::{GotParsed, MessageAns, ParsedMessage};
 
 // Which reading is asked for.
@@ -11,7 +10,6 @@ pub enum Asked {
     Message,
     Reasons,
     Confined,
-    Headers,
 }
 
 // The answer to a request whose kind ends at `kind_end`.
@@ -68,7 +66,6 @@ fn by_reading(
         Asked::Message => shown(s, f, with_storage_header, false, out, at),
         Asked::Reasons => shown(s, f, with_storage_header, true, out, at),
         Asked::Confined => conf::shown(s, f, with_storage_header, out, at),
-        Asked::Headers => halves::head(s, f, with_storage_header, out, at),
     }
 }
 
@@ -91,7 +88,7 @@ fn shown(
 }
 
 // A message that was read, or that the filter drops.
-pub fn parsed(s: &[u8], got: GotParsed, why: bool, out: &mut Out, at: usize) -> usize {
+fn parsed(s: &[u8], got: GotParsed, why: bool, out: &mut Out, at: usize) -> usize {
     let end = got.next;
     let v = got.v;
     match v {

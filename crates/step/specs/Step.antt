@@ -63,14 +63,6 @@ unfoldable pub skipped_of_lem : OptStored → ℕ
 skipped_of_lem (OptStored.Present x) = x.skipped
 skipped_of_lem OptStored.Absent = 0
 
--- the same by its two halves: the first half's headers tell the length and the bytes skipped, the confined second half tells the kind; a Hickup of the first
--- has no headers, so that the pattern is searched for
-abbrev pub heard_halves : List ℕ → Ans (Headers × Ans ConfinedMessage) → Step ℕ ℕ
-heard_halves s (done (h, x) n) = heard (skipped_of_lem h.storage_header) (16 + overall_length_of h.header) x
-heard_halves s (hickup r) = Take (skipped_to_of (find pattern s 0)) 4 hickup_kind
-heard_halves s broken = Take (skipped_to_of (find pattern s 0)) 4 unrecoverable_kind
-heard_halves s (need n) = Wait n
-
 -- the step that the enum stands for
 abbrev pub step_of : Heard → Step ℕ ℕ
 step_of (Heard.Wait n) = Wait n

@@ -1,56 +1,25 @@
 //! compare KIND COUNT SEED [THREADS]: makes requests by seed as `oracle/compare` does, asks the crate and the archive in this process, and counts the
 //! answers that differ. KIND is msg, consume, fwd, args, index, limited (index with a limit), overrun (index over messages whose arguments run past their
-//! declared end), net (msg of network traces), why-msg, why-args (msg and args with why each text ended, over all numbers of a message and an argument), head,
-//! rest (the halves of a message's reading, the second with other bytes and changed numbers), row (rest of the same bytes), halves or all; or ids, which all
-//! leaves out: msg with 1,901,020 identifiers of every make, and then random ones; or why-ids, the same with why. The archive has no call for conf:
-//! `oracle/compare conf` asks replay.
-//! Of halves the requests are those of msg: the crate's answer is beside that of both halves in a row, and what these leave in a slice beside what our
-//! dlt_message leaves there.
+//! declared end), net (msg of network traces), why-msg, why-args (msg and args with why each text ended, over all numbers of a message and an argument) or
+//! all; or ids, which all leaves out: msg with 1,901,020 identifiers of every make, and then random ones; or why-ids, the same with why. The archive has no
+//! call for conf: `oracle/compare conf` asks replay.
 //! With threads, each has a seed of its own: SEED, SEED + 1, ..
 
-use host::raw;
-use oracle::request::{self, Request};
 use std::panic::catch_unwind;
 use std::time::Instant;
 
-const KINDS: [&str; 14] = ["msg", "consume", "fwd", "args", "index", "limited", "overrun", "net", "why-msg", "why-args", "head", "rest", "row", HALVES];
-
-/// The kind that is no kind of the oracle's.
-const HALVES: &str = "halves";
+const KINDS: [&str; 10] = ["msg", "consume", "fwd", "args", "index", "limited", "overrun", "net", "why-msg", "why-args"];
 
 struct Count {
     asked: u64,
     differ: u64,
 }
 
-/// Numbers that are lent for a message, more than it needs, and none of them one that comes out.
-const LENT: [u64; raw::MESSAGE_SIZE + 3] = [0xa5a5_a5a5_a5a5_a5a5; raw::MESSAGE_SIZE + 3];
-
-/// The answer of both halves in a row to a request of the kind msg, or how they and dlt_message differ in what they leave.
-fn in_a_row(line: &str) -> Option<String> {
-    let Some(Request::Message { storage, filter, bytes }) = request::read(line.as_bytes()) else { return None };
-    let (mut whole, mut halves, mut heads) = (LENT, LENT, [LENT[0]; raw::HEADERS_SIZE]);
-    let answer = raw::message(&bytes, &filter, storage, &mut whole);
-    let mut second = raw::headers(&bytes, &filter, storage, &mut heads);
-    let first_done = second.number == raw::DONE;
-    if first_done {
-        second = raw::payload(&bytes, &heads, &mut halves);
-    }
-    if (answer, whole) != (second, halves) {
-        return Some(format!("dlt_message {answer:?} leaves {whole:?}, the halves {second:?} leave {halves:?}"));
-    }
-    if !first_done && heads != [LENT[0]; raw::HEADERS_SIZE] {
-        return Some(format!("dlt_headers {second:?} leaves {heads:?}"));
-    }
-    Some(host::text::rest(storage, &filter, &bytes, &bytes, &[]))
-}
-
 fn compare(kind: &str, count: u64, seed: u64) -> Result<Count, String> {
     let mut all = Count { asked: 0, differ: 0 };
-    let (requests, ask): (&str, fn(&str) -> Option<String>) = if kind == HALVES { ("msg", in_a_row) } else { (kind, host::text::answer) };
-    for kind in oracle::requests::kinds(requests)? {
+    for kind in oracle::requests::kinds(kind)? {
         kind.make(Some(count), seed, &mut |line| {
-            let ours = catch_unwind(|| ask(line)).unwrap_or(Some("panic".to_string()));
+            let ours = catch_unwind(|| host::text::answer(line)).unwrap_or(Some("panic".to_string()));
             let Some(ours) = ours else { return };
             let theirs = oracle::answer::answer(line.as_bytes());
             all.asked += 1;

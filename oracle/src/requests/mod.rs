@@ -8,7 +8,6 @@ mod bad;
 pub mod build;
 mod confined;
 mod fields;
-mod halves;
 mod identifiers;
 mod index;
 pub mod messages;
@@ -41,13 +40,8 @@ const RETIRE: &str = "retire";
 const CONF: &str = "conf";
 const OVERRUN: &str = "overrun";
 
-/// The kinds of the two halves of a message's reading.
-const HEAD: &str = "head";
-const REST: &str = "rest";
-const ROW: &str = "row";
-
 /// Every kind but those of `why`, in the order in which `all` goes through them.
-pub const KINDS: [Kind; 20] = [
+pub const KINDS: [Kind; 17] = [
     Kind { name: "zts", tiny: strings::TINY, sections: strings::SECTIONS, random: strings::random },
     Kind { name: "fwd", tiny: fields::FORWARD_TINY, sections: fields::FORWARD, random: fields::random_forward },
     Kind { name: "skip", tiny: fields::SKIP_TINY, sections: fields::SKIP, random: fields::random_skip },
@@ -69,9 +63,6 @@ pub const KINDS: [Kind; 20] = [
     Kind { name: CONF, tiny: confined::TINY, sections: confined::SECTIONS, random: confined::random },
     Kind { name: OVERRUN, tiny: confined::WALKED_TINY, sections: confined::WALKED, random: confined::random_walked },
     Kind { name: RETIRE, tiny: retire::TINY, sections: retire::SECTIONS, random: retire::random },
-    Kind { name: HEAD, tiny: halves::HEAD_TINY, sections: halves::HEAD, random: halves::random_head },
-    Kind { name: REST, tiny: halves::REST_TINY, sections: halves::REST, random: halves::random_rest },
-    Kind { name: ROW, tiny: halves::ROW_TINY, sections: halves::ROW, random: halves::random_row },
     Kind { name: "bad", tiny: bad::TINY, sections: bad::SECTIONS, random: bad::random },
 ];
 
@@ -109,14 +100,6 @@ impl Kind {
 
     pub fn is_confined(&self) -> bool {
         self.name == CONF || self.name == OVERRUN
-    }
-
-    pub fn is_half(&self) -> bool {
-        [HEAD, REST, ROW].contains(&self.name)
-    }
-
-    pub fn is_rest(&self) -> bool {
-        self.name == REST
     }
 
     /// Makes `count` requests: an even sample of the fixed part if it is larger
@@ -177,9 +160,9 @@ impl Kind {
         (0..self.sections.len()).map(|section| self.section_size(section, self.rng(section, seed))).sum()
     }
 
-    /// The kinds of the confined reading and of the halves came last: nothing of theirs has to stay as it was.
+    /// The kinds of the confined reading came last: nothing of theirs has to stay as it was.
     fn for_list(&self, rng: Rng) -> Rng {
-        if self.is_confined() || self.is_half() {
+        if self.is_confined() {
             rng
         } else {
             rng.listing()

@@ -1,7 +1,7 @@
 -- `numbers::put_item` meets its contract: `search` goes through the rule as the code does.
 -- Assumes nothing.
 use borrow.Author.Rules.{rules}
-use Rattle.numbers.proofs.Rows.{item_room, rows}
+use Rattle.numbers.proofs.Rows.{rows}
 use Rattle.numbers.proofs.put_item.Statement.{statement}
 use Rattle.numbers.proofs.put_item.Tie as tie
 
@@ -9,7 +9,9 @@ pub put_item_spec : {M : Type 1} → statement M
 put_item_spec =
     let closed = tie.spec
     (λ c κs. search rules)
-    (λ c κs. search (rules, item_room))
+    (λ c κs. search rules)
+    (λ c κs. search rules)
+    (λ c κs. search rules)
     (λ c. search rules)
     (λ c. search rows depth 20)
     (λ c. search rows depth 20)

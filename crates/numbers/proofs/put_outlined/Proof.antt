@@ -2,7 +2,6 @@
 -- Assumes nothing.
 use borrow.Author.Rules.{rules}
 use Rattle.numbers.proofs.Outlined.{outlined}
-use Rattle.numbers.proofs.Rows.{item_room}
 use Rattle.numbers.proofs.put_outlined.Statement.{statement}
 use Rattle.numbers.proofs.put_outlined.Tie as tie
 
@@ -10,8 +9,12 @@ pub put_outlined_spec : {M : Type 1} → statement M
 put_outlined_spec =
     let closed = tie.spec
     (λ c κs. search rules)
+    (λ c. search rules)
     (λ c κs. search rules)
-    (λ c κs. search (rules, item_room))
+    (λ c κs. search rules)
+    (λ c κs. search rules)
+    (λ c κs. search rules)
+    (λ c κs. search rules)
     (λ c. search rules)
     (λ c. search outlined depth 20)
     (λ c. search outlined depth 20)

@@ -1,16 +1,16 @@
--- `replay::digits::find` is safe and ends. Assumes nothing.
+-- `replay::digits::comma` is safe and ends. Assumes nothing.
 use Rattle.std.proofs.Common.{◌-◌, ◌≤◌, rules}
-use Rattle.replay.proofs.digits.find.Statement.{statement}
-use Rattle.replay.proofs.digits.find.Tie as tie
+use Rattle.replay.proofs.digits.comma.Statement.{statement}
+use Rattle.replay.proofs.digits.comma.Tie as tie
 
 abbrev invariant-loop : tie.invariant-loop
-invariant-loop line c from end i₀ i = from ≤ i
+invariant-loop line from end i₀ i = from ≤ i
 
 abbrev decreases-loop : tie.decreases-loop
-decreases-loop line c from end i₀ i = end - i
+decreases-loop line from end i₀ i = end - i
 
-pub find_spec : {M : Type 1} → statement M
-find_spec =
+pub comma-spec : {M : Type 1} → statement M
+comma-spec =
     tie.close
     (tie.spec
     invariant-loop

@@ -1,4 +1,0 @@
-pub mod Reading
-pub mod Tells
-pub mod Back
-pub mod Iff

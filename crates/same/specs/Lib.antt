@@ -1,3 +1,0 @@
--- When two headers are one.
-pub mod Codes
-pub mod Same
