@@ -3,6 +3,7 @@
 // Copyright 2021 by Accenture ESR. Ported under the Apache License 2.0: see NOTICE.
 //
 // A String or a Vec is a range of the caller's bytes; a String says why it ended. An Option is an enum for each type. A bit is read by `/` and `%`.
+#![tactic(auto)]
 ghost use Rattle.std.specs.Prelude.{◌≡◌, ◌%◌};
 ghost use Rattle.dlt.specs.TypeInfoWord.{type_length_of, float_width_of, wide_length, length_bytes, float_bytes, signed_of, unsigned_of, float_of, kind_of, coding_of_lem, type_info_of_lem};
 

@@ -1,6 +1,7 @@
 // The index call over a table of entry structs that is handed over and handed back by value, and over a fresh one.
 //
 // All that `index_own` does is lend the table to `entries::index_entries`: a function that lends an array of structs is proved by hand.
+#![tactic(auto)]
 ghost use Rattle.std.specs.Prelude.{◌≡◌, replicate};
 ghost use Rattle.index.specs.Index.{call};
 ghost use Rattle.entries.specs.Form.{entry_form};

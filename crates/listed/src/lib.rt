@@ -1,5 +1,6 @@
 // The listing of a trace: what the program `listing` prints of its standard input, here of any file descriptor. At most 65,536 bytes, into 1,024
 // entries, with no filter. The buffer and the table stand on the stack. The table is one of numbers or one of structs, and the listing is the same.
+#![tactic(auto)]
 ghost use Rattle.std.specs.Prelude.{◌≡◌, ◌+◌, ◌≤◌, length};
 
 use entries::Entry;

@@ -11,6 +11,7 @@
 // missing.dlt            a file that isn't there
 //
 // The recording: the first 60 messages that `dlt-receive -o` wrote while a program logged arguments of every kind.
+#![tactic(auto)]
 use libc::STDOUT_FILENO;
 
 // The line above a listing.

@@ -9,6 +9,7 @@
 // - writer: text, numbers and bytes into a buffer that is written out whenever it is full.
 //
 // All memory is the four arrays of `main`: functions borrow them, and hand on numbers by value.
+#![tactic(auto)]
 ghost use Rattle.std.specs.Prelude.{◌≡◌, length};
 
 mod answer;

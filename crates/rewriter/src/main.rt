@@ -1,4 +1,5 @@
 // The rewriting program: writes the filter on standard input without its retired fields to standard output, and what it removed to standard error.
+#![tactic(auto)]
 use libc::{STDERR_FILENO, STDOUT_FILENO};
 
 fn main() {

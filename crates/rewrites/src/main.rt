@@ -13,6 +13,7 @@
 // full.filter      bad: as many bytes as the buffer holds
 // large.filter     bad: 65,536 bytes
 // missing.filter   a file that isn't there
+#![tactic(auto)]
 use libc::STDOUT_FILENO;
 
 fn close(fd: i32) {

@@ -2,6 +2,7 @@
 // go to one descriptor, the lines that say what was removed to another.
 //
 // The buffer stands on the stack and holds 1,024 bytes. A good filter has at most 803, so bytes that fill the buffer are bad, whatever follows them.
+#![tactic(auto)]
 ghost use Rattle.std.specs.Prelude.{◌≡◌, ◌≤◌, length};
 
 use filter::{Counts, OptIdCount};

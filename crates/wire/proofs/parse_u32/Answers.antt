@@ -1,0 +1,11 @@
+-- `wire::parse_u32` meets its contract: `search` goes through the rule as the code does.
+use borrow.Author.Rules.{rules}
+use Rattle.wire.proofs.Digits.{leaves}
+use Rattle.wire.proofs.parse_u32.Goals as goal
+
+pub returns-then-rest-lt4 : goal.returns-then-rest-lt4
+returns-then-rest-lt4 c = search leaves depth 20
+
+pub returns : goal.returns
+returns c = search leaves depth 20
+
