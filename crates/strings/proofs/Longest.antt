@@ -70,9 +70,12 @@ unfolding valid_up_to_of
 prefix_valid n s at = up_to_valid n n s at
 
 -- and it is the longest
-pub prefix_longest : {m at : ℕ} (n : ℕ) (s : List ℕ) → m ≤ n → ValidUtf8 s at m → m ≤ valid_up_to_of n s at
-prefix_longest n s h empty = zero-le
-prefix_longest {at = at} n s h (more {n = k} w p e v) =
+longest_by : (s : List ℕ) (n : ℕ) {m at : ℕ} → m ≤ n → ValidUtf8 s at m → m ≤ valid_up_to_of n s at
+longest_by s n h empty = zero-le
+longest_by s n {at = at} h (more {n = k} w p e v) =
     let q : sequence n s at ≡ w = between w n s at w e p (omega arith) in
-    let r : k ≤ valid_up_to_of (n - w) s (at + w) = prefix_longest (n - w) s (omega arith) v in
+    let r : k ≤ valid_up_to_of (n - w) s (at + w) = longest_by s (n - w) (omega arith) v in
     omega (arith, valid_step n s at w (omega arith) (sym q) p)
+
+pub prefix_longest : {m at : ℕ} (n : ℕ) (s : List ℕ) → m ≤ n → ValidUtf8 s at m → m ≤ valid_up_to_of n s at
+prefix_longest n s h v = longest_by s n h v

@@ -1,0 +1,15 @@
+-- `signed::parse_i16` meets its contract: `search` goes through the rule as the code does.
+use borrow.Author.Rules.{rules}
+use Rattle.signed.proofs.Reading.{signed-reading}
+use Rattle.wire.specs.Number.{numeric}
+use Rattle.signed.specs.Twos.{signed}
+use Rattle.signed.proofs.parse_i16.Goals as goal
+
+pub returns-in-Done : goal.returns-in-Done
+unfolding signed numeric
+returns-in-Done c = search signed-reading depth 20
+
+pub returns-in-Need : goal.returns-in-Need
+unfolding signed numeric
+returns-in-Need c = search signed-reading depth 20
+
