@@ -10,26 +10,26 @@ use names::{NameAns, NamesAns};
 use values::{GotValue, Numeric, PointAns, ValueAns};
 use wire::{RangeAns, TextAns, U8Ans, U16Ans, U32Ans};
 
-#[derive(Drop)]
+#[derive(Clone, Copy)]
 pub struct GotTypeInfo {
     pub v: TypeInfo,
     pub next: usize,
 }
 
-#[derive(Drop)]
+#[derive(Clone, Copy)]
 pub enum TypeInfoAns {
     Done(GotTypeInfo),
     Need(usize),
     Hickup(u8),
 }
 
-#[derive(Drop)]
+#[derive(Clone, Copy)]
 pub struct GotArgument {
     pub v: Argument,
     pub next: usize,
 }
 
-#[derive(Drop)]
+#[derive(Clone, Copy)]
 pub enum ArgumentAns {
     Done(GotArgument),
     Need(usize),

@@ -12,7 +12,7 @@ use skim::SkimAns;
 use wire::Range;
 
 // Done is where they end.
-#[derive(Drop)]
+#[derive(Clone, Copy)]
 pub enum PassAns {
     Done(usize),
     Need(usize),
@@ -38,32 +38,32 @@ pub fn pass_arguments(s: &[u8], at: usize, count: usize, big: bool) -> PassAns
 }
 
 // Where the next argument stands, and how many are left.
-#[derive(Drop)]
+#[derive(Clone, Copy)]
 pub struct Cursor {
     pub at: usize,
     pub left: usize,
     pub big: bool,
 }
 
-#[derive(Drop)]
+#[derive(Clone, Copy)]
 pub struct Handed {
     pub argument: Argument,
     pub rest: Cursor,
 }
 
-#[derive(Drop)]
+#[derive(Clone, Copy)]
 pub enum Turn {
     Item(Handed),
     End,
 }
 
-#[derive(Drop)]
+#[derive(Clone, Copy)]
 pub struct GotTurn {
     pub v: Turn,
     pub next: usize,
 }
 
-#[derive(Drop)]
+#[derive(Clone, Copy)]
 pub enum TurnAns {
     Done(GotTurn),
     Need(usize),
@@ -103,32 +103,32 @@ impl Cursor {
 }
 
 // The same over a network trace's arguments, of which only raw values are kept.
-#[derive(Drop)]
+#[derive(Clone, Copy)]
 pub struct RawCursor {
     pub at: usize,
     pub left: usize,
     pub big: bool,
 }
 
-#[derive(Drop)]
+#[derive(Clone, Copy)]
 pub struct HandedRaw {
     pub range: Range,
     pub rest: RawCursor,
 }
 
-#[derive(Drop)]
+#[derive(Clone, Copy)]
 pub enum RawTurn {
     Item(HandedRaw),
     End,
 }
 
-#[derive(Drop)]
+#[derive(Clone, Copy)]
 pub struct GotRawTurn {
     pub v: RawTurn,
     pub next: usize,
 }
 
-#[derive(Drop)]
+#[derive(Clone, Copy)]
 pub enum RawTurnAns {
     Done(GotRawTurn),
     Need(usize),

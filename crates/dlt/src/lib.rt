@@ -20,14 +20,14 @@ use wire::{Range, Text};
 
 // ---- values, and the parts of type info
 
-#[derive(Drop)]
+#[derive(Clone, Copy)]
 pub enum FixedPointValue {
     I32(i32),
     I64(i64),
 }
 
 // A number of 128 bits is its two halves. A float that is no number has a case of its own, with its pattern.
-#[derive(Drop)]
+#[derive(Clone, Copy)]
 pub enum Value {
     Bool(u8),
     U8(u8),
@@ -48,20 +48,20 @@ pub enum Value {
     Raw(Range),
 }
 
-#[derive(Drop)]
+#[derive(Clone, Copy)]
 pub enum StringCoding {
     ASCII,
     UTF8,
     Reserved(u8),
 }
 
-#[derive(Drop)]
+#[derive(Clone, Copy)]
 pub enum FloatWidth {
     Width32,
     Width64,
 }
 
-#[derive(Drop)]
+#[derive(Clone, Copy)]
 pub enum OptFloatWidth {
     Present(FloatWidth),
     Absent,
@@ -76,7 +76,7 @@ pub fn float_width_to_type_length(width: FloatWidth) -> TypeLength
     }
 }
 
-#[derive(Drop)]
+#[derive(Clone, Copy)]
 pub enum TypeLength {
     BitLength8,
     BitLength16,
@@ -85,7 +85,7 @@ pub enum TypeLength {
     BitLength128,
 }
 
-#[derive(Drop)]
+#[derive(Clone, Copy)]
 pub enum OptTypeLength {
     Present(TypeLength),
     Absent,
@@ -116,7 +116,7 @@ impl TypeLength {
     }
 }
 
-#[derive(Drop)]
+#[derive(Clone, Copy)]
 pub enum TypeInfoKind {
     Bool,
     Signed(TypeLength),
@@ -128,13 +128,13 @@ pub enum TypeInfoKind {
     Raw,
 }
 
-#[derive(Drop)]
+#[derive(Clone, Copy)]
 pub enum OptKind {
     Present(TypeInfoKind),
     Absent,
 }
 
-#[derive(Drop)]
+#[derive(Clone, Copy)]
 pub struct TypeInfo {
     pub kind: TypeInfoKind,
     pub coding: StringCoding,
@@ -143,7 +143,7 @@ pub struct TypeInfo {
 }
 
 // What a type info word is: Ok and Err of the source.
-#[derive(Drop)]
+#[derive(Clone, Copy)]
 pub enum Decoded {
     Accepted(TypeInfo),
     Refused,
@@ -266,21 +266,21 @@ impl TypeInfo {
 // ---- arguments
 
 // The quantization as a float, and its pattern beside it: of a NaN only the pattern says which.
-#[derive(Drop)]
+#[derive(Clone, Copy)]
 pub struct FixedPoint {
     pub quantization: f32,
     pub pattern: u32,
     pub offset: FixedPointValue,
 }
 
-#[derive(Drop)]
+#[derive(Clone, Copy)]
 pub enum OptPoint {
     Present(FixedPoint),
     Absent,
 }
 
 // An argument, and where it stands in the bytes.
-#[derive(Drop)]
+#[derive(Clone, Copy)]
 pub struct Argument {
     pub type_info: TypeInfo,
     pub name: OptText,

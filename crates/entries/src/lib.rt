@@ -16,7 +16,7 @@ use messageinfo::OptLevel;
 use step::Heard;
 
 // An entry of the table. The kinds: 0 item, 1 filtered, 2 hickup, 3 unrecoverable, 4 overrun.
-#[derive(Drop)]
+#[derive(Clone, Copy)]
 pub struct Entry {
     pub start: u64,
     pub skipped: u64,
@@ -27,7 +27,7 @@ pub struct Entry {
 // One turn of the call. Where `go` is true, `entry` is due at `place`. Where it is false, `answer` is the call's answer. These four the loop reads;
 // the others only `next` does: how far the bytes are passed with the entry, the resume position given, the table's places, the filter, and how many
 // entries the call may take.
-#[derive(Drop)]
+#[derive(Clone, Copy)]
 pub struct Turn {
     pub go: bool,
     pub place: usize,

@@ -11,7 +11,7 @@ use entries::Entry;
 use index::{Indexed, State};
 
 // A table of 1,024 places, and what the call that filled it answered.
-#[derive(Drop)]
+#[derive(Clone, Copy)]
 pub struct Filled {
     pub answer: Indexed,
     pub table: [Entry; 1024],

@@ -11,50 +11,50 @@ use headertype::{Endianness, OptNum, OptText, StandardHeader};
 use messageinfo::{ExtendedHeader, MessageType};
 use wire::{RangeAns, Text, TextAns, U8Ans, U16Ans, U32Ans};
 
-#[derive(Drop)]
+#[derive(Clone, Copy)]
 pub struct GotOptText {
     pub v: OptText,
     pub next: usize,
 }
 
-#[derive(Drop)]
+#[derive(Clone, Copy)]
 pub enum OptTextAns {
     Done(GotOptText),
     Need(usize),
 }
 
-#[derive(Drop)]
+#[derive(Clone, Copy)]
 pub struct GotOptNum {
     pub v: OptNum,
     pub next: usize,
 }
 
-#[derive(Drop)]
+#[derive(Clone, Copy)]
 pub enum OptNumAns {
     Done(GotOptNum),
     Need(usize),
 }
 
-#[derive(Drop)]
+#[derive(Clone, Copy)]
 pub struct GotStandard {
     pub v: StandardHeader,
     pub next: usize,
 }
 
-#[derive(Drop)]
+#[derive(Clone, Copy)]
 pub enum StandardAns {
     Done(GotStandard),
     Need(usize),
     Hickup(u8),
 }
 
-#[derive(Drop)]
+#[derive(Clone, Copy)]
 pub struct GotExtended {
     pub v: ExtendedHeader,
     pub next: usize,
 }
 
-#[derive(Drop)]
+#[derive(Clone, Copy)]
 pub enum ExtendedAns {
     Done(GotExtended),
     Need(usize),

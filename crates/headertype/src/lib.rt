@@ -9,37 +9,37 @@ ghost use Rattle.headertype.specs.HeaderType.{big_bit_of, text_bit_of, num_bit_o
 
 use wire::{Range, Text};
 
-#[derive(Drop)]
+#[derive(Clone, Copy)]
 pub enum OptNum {
     Present(u32),
     Absent,
 }
 
-#[derive(Drop)]
+#[derive(Clone, Copy)]
 pub enum OptRange {
     Present(Range),
     Absent,
 }
 
-#[derive(Drop)]
+#[derive(Clone, Copy)]
 pub enum OptText {
     Present(Text),
     Absent,
 }
 
-#[derive(Drop)]
+#[derive(Clone, Copy)]
 pub enum Endianness {
     Little,
     Big,
 }
 
-#[derive(Drop)]
+#[derive(Clone, Copy)]
 pub struct StorageHeader {
     pub timestamp: DltTimeStamp,
     pub ecu_id: Text,
 }
 
-#[derive(Drop)]
+#[derive(Clone, Copy)]
 pub struct StandardHeader {
     pub version: u8,
     pub endianness: Endianness,
@@ -51,7 +51,7 @@ pub struct StandardHeader {
     pub payload_length: u16,
 }
 
-#[derive(Drop)]
+#[derive(Clone, Copy)]
 pub struct DltTimeStamp {
     pub seconds: u32,
     pub microseconds: u32,

@@ -11,14 +11,14 @@ use filter::{Filter, FilterAns};
 use step::Heard;
 
 // Where the next call goes on, and how many entries of the table are used. Both are 0 when fresh.
-#[derive(Drop)]
+#[derive(Clone, Copy)]
 pub struct State {
     pub at: usize,
     pub used: usize,
 }
 
 // How a call ended: refused, or its walk is at a full table, or has taken as many entries as it may, or waits for so many bytes (0 for unknown).
-#[derive(Drop)]
+#[derive(Clone, Copy)]
 pub enum End {
     BadFilter,
     RetiredTag,
@@ -30,7 +30,7 @@ pub enum End {
 }
 
 // The state behind a call, the number of entries taken in it, and how it ended.
-#[derive(Drop)]
+#[derive(Clone, Copy)]
 pub struct Indexed {
     pub state: State,
     pub taken: usize,

@@ -18,7 +18,7 @@ fn table_room() -> [u64; 4096]
 }
 
 // What was read: so many bytes, or more than there is room for, or a read failed.
-#[derive(Drop)]
+#[derive(Clone, Copy)]
 enum Input {
     Bytes(usize),
     Longer,

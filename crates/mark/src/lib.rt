@@ -10,7 +10,7 @@ ghost use Rattle.mark.specs.declared.Found.{Found};
 ghost use Rattle.mark.specs.Block.{is_end_of, is_mark};
 
 // A search's answer.
-#[derive(Drop)]
+#[derive(Clone, Copy)]
 pub enum Found {
     At(usize),
     Nothing,

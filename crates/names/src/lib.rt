@@ -8,31 +8,31 @@ ghost use Rattle.names.specs.Names.{name, maybe_name, texts, name_and_unit_of, m
 use dlt::OptText;
 use wire::{TextAns, U16Ans};
 
-#[derive(Drop)]
+#[derive(Clone, Copy)]
 pub struct GotName {
     pub v: OptText,
     pub next: usize,
 }
 
-#[derive(Drop)]
+#[derive(Clone, Copy)]
 pub enum NameAns {
     Done(GotName),
     Need(usize),
 }
 
-#[derive(Drop)]
+#[derive(Clone, Copy)]
 pub struct Names {
     pub name: OptText,
     pub unit: OptText,
 }
 
-#[derive(Drop)]
+#[derive(Clone, Copy)]
 pub struct GotNames {
     pub v: Names,
     pub next: usize,
 }
 
-#[derive(Drop)]
+#[derive(Clone, Copy)]
 pub enum NamesAns {
     Done(GotNames),
     Need(usize),

@@ -447,7 +447,7 @@ pub fn put_item(out: &mut [u64], h: Headers, content: PayloadContent)
 // ---- the same groups straight from the bytes, of a message that was told at a glance
 
 // Why two identifiers ended, as numbers.
-#[derive(Drop)]
+#[derive(Clone, Copy)]
 struct TwoEnds {
     first: u64,
     second: u64,

@@ -9,7 +9,7 @@ use messageinfo::{ControlType, MessageType};
 use wire::{Range, RangeAns, U8Ans, U32Ans};
 
 // A list of arguments is its cursor; a network trace's hands out raw values only.
-#[derive(Drop)]
+#[derive(Clone, Copy)]
 pub enum PayloadContent {
     Verbose(Cursor),
     NonVerbose(u32, Range),
@@ -17,13 +17,13 @@ pub enum PayloadContent {
     NetworkTrace(RawCursor),
 }
 
-#[derive(Drop)]
+#[derive(Clone, Copy)]
 pub struct GotPayload {
     pub v: PayloadContent,
     pub next: usize,
 }
 
-#[derive(Drop)]
+#[derive(Clone, Copy)]
 pub enum PayloadAns {
     Done(GotPayload),
     Need(usize),

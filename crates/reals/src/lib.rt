@@ -10,38 +10,38 @@ ghost use Rattle.reals.specs.Real.{real32_of, real64_of, float32, float64, patte
 use wire::{U32Ans, U64Ans};
 
 // A 32-bit float as it was read.
-#[derive(Drop)]
+#[derive(Clone, Copy)]
 pub enum Real32 {
     Number(f32),
     NotANumber(u32),
 }
 
-#[derive(Drop)]
+#[derive(Clone, Copy)]
 pub struct GotF32 {
     pub v: Real32,
     pub next: usize,
 }
 
-#[derive(Drop)]
+#[derive(Clone, Copy)]
 pub enum F32Ans {
     Done(GotF32),
     Need(usize),
 }
 
 // A 64-bit float as it was read.
-#[derive(Drop)]
+#[derive(Clone, Copy)]
 pub enum Real64 {
     Number(f64),
     NotANumber(u64),
 }
 
-#[derive(Drop)]
+#[derive(Clone, Copy)]
 pub struct GotF64 {
     pub v: Real64,
     pub next: usize,
 }
 
-#[derive(Drop)]
+#[derive(Clone, Copy)]
 pub enum F64Ans {
     Done(GotF64),
     Need(usize),

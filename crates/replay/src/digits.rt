@@ -4,20 +4,20 @@ ghost use Rattle.std.specs.Prelude.{◌≡◌, ◌+◌, ◌*◌, ◌<◌, ◌≤
 use crate::fields;
 use crate::fields::Field;
 
-#[derive(Drop)]
+#[derive(Clone, Copy)]
 pub enum Number {
     Value(u64),
     Bad,
 }
 
-#[derive(Drop)]
+#[derive(Clone, Copy)]
 pub enum Word {
     Value(u32),
     Bad,
 }
 
 // Which of two a field says.
-#[derive(Drop)]
+#[derive(Clone, Copy)]
 pub enum Flag {
     Yes,
     No,

@@ -1,7 +1,7 @@
 // The words of a line, which single spaces part.
 
 // A word of a line: from `start` up to `end`. A word that is missing has no bytes, like one between two spaces: no request has such a field.
-#[derive(Drop)]
+#[derive(Clone, Copy)]
 pub struct Field {
     pub start: usize,
     pub end: usize,

@@ -21,13 +21,13 @@ fn table_room() -> [u64; 16384]
 }
 
 // What a call is given besides bytes: how many entries the table has, and the state.
-#[derive(Drop)]
+#[derive(Clone, Copy)]
 struct Request {
     cap: u64,
     state: State,
 }
 
-#[derive(Drop)]
+#[derive(Clone, Copy)]
 enum Asked {
     Good(Request),
     Bad,
@@ -59,7 +59,7 @@ fn request_of(cap: Number, resume: Number, used: Number) -> Asked {
 }
 
 // The three numbers of a request, and where its filter begins.
-#[derive(Drop)]
+#[derive(Clone, Copy)]
 struct Front {
     asked: Asked,
     end: usize,
@@ -80,7 +80,7 @@ fn front_of(line: &[u8], kind_end: usize) -> Front {
 }
 
 // The last field, if there is one: after how many entries the call stops.
-#[derive(Drop)]
+#[derive(Clone, Copy)]
 enum Limit {
     After(u64),
     Absent,

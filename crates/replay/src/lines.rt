@@ -9,7 +9,7 @@ use crate::{answer, writer};
 
 // Where the reading stands between two blocks: how many bytes are kept at the front of the input buffer, whether what comes up to the next
 // newline is dropped, since it is the end of a line that was too long and has its answer, and whether the input has ended.
-#[derive(Drop)]
+#[derive(Clone, Copy)]
 struct Feed {
     kept: usize,
     dropping: bool,

@@ -5,7 +5,7 @@ use crate::{conf, digits, fields, message, writer};
 use parse::{GotParsed, MessageAns, ParsedMessage};
 
 // Which reading is asked for.
-#[derive(Drop)]
+#[derive(Clone, Copy)]
 pub enum Asked {
     Message,
     Reasons,

@@ -16,7 +16,7 @@ fn room() -> [u8; 1024]
 }
 
 // What was read: so many bytes, or that a read failed.
-#[derive(Drop)]
+#[derive(Clone, Copy)]
 enum Input {
     Bytes(usize),
     Failed,

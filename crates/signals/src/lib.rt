@@ -13,14 +13,14 @@ use dlt::{Argument, Decoded, FloatWidth, OptPoint, OptText, TypeInfo, TypeInfoKi
 use values::{GotValue, Numeric, ValueAns};
 use wire::{Ended, Range, RangeAns, Text, U8Ans, U16Ans};
 
-#[derive(Drop)]
+#[derive(Clone, Copy)]
 pub enum ContentAns {
     Done(GotValue),
     Need(usize),
     Hickup(u8),
 }
 
-#[derive(Drop)]
+#[derive(Clone, Copy)]
 pub enum SignalAns {
     Done(GotArgument),
     Hickup(u8),
@@ -170,13 +170,13 @@ fn signal_at(s: &[u8], at: usize, word: u32, big: bool) -> SignalAns
 }
 
 // How many arguments there are, and how many bytes they use.
-#[derive(Drop)]
+#[derive(Clone, Copy)]
 pub struct Constructed {
     pub count: usize,
     pub used: usize,
 }
 
-#[derive(Drop)]
+#[derive(Clone, Copy)]
 pub enum ConstructAns {
     Done(Constructed),
     Hickup(u8),
@@ -200,32 +200,32 @@ pub fn construct_arguments(big: bool, words: &[u32], data: &[u8]) -> ConstructAn
 }
 
 // Where the next signal stands, and the number of its word.
-#[derive(Drop)]
+#[derive(Clone, Copy)]
 pub struct SignalCursor {
     pub at: usize,
     pub word: usize,
     pub big: bool,
 }
 
-#[derive(Drop)]
+#[derive(Clone, Copy)]
 pub struct HandedSignal {
     pub argument: Argument,
     pub rest: SignalCursor,
 }
 
-#[derive(Drop)]
+#[derive(Clone, Copy)]
 pub enum SignalTurn {
     Item(HandedSignal),
     End,
 }
 
-#[derive(Drop)]
+#[derive(Clone, Copy)]
 pub struct GotSignalTurn {
     pub v: SignalTurn,
     pub next: usize,
 }
 
-#[derive(Drop)]
+#[derive(Clone, Copy)]
 pub enum SignalTurnAns {
     Done(GotSignalTurn),
     Hickup(u8),

@@ -7,68 +7,68 @@ ghost use Rattle.signed.specs.Twos.{twos, signed, signed_halves, i8_ans, i16_ans
 
 use wire::{U8Ans, U16Ans, U32Ans, U64Ans, U128Ans};
 
-#[derive(Drop)]
+#[derive(Clone, Copy)]
 pub struct GotI8 {
     pub v: i8,
     pub next: usize,
 }
 
-#[derive(Drop)]
+#[derive(Clone, Copy)]
 pub struct GotI16 {
     pub v: i16,
     pub next: usize,
 }
 
-#[derive(Drop)]
+#[derive(Clone, Copy)]
 pub struct GotI32 {
     pub v: i32,
     pub next: usize,
 }
 
-#[derive(Drop)]
+#[derive(Clone, Copy)]
 pub struct GotI64 {
     pub v: i64,
     pub next: usize,
 }
 
 // 128 bits in two halves, the sign in the high one.
-#[derive(Drop)]
+#[derive(Clone, Copy)]
 pub struct SignedWide {
     pub high: i64,
     pub low: u64,
 }
 
-#[derive(Drop)]
+#[derive(Clone, Copy)]
 pub struct GotI128 {
     pub v: SignedWide,
     pub next: usize,
 }
 
-#[derive(Drop)]
+#[derive(Clone, Copy)]
 pub enum I8Ans {
     Done(GotI8),
     Need(usize),
 }
 
-#[derive(Drop)]
+#[derive(Clone, Copy)]
 pub enum I16Ans {
     Done(GotI16),
     Need(usize),
 }
 
-#[derive(Drop)]
+#[derive(Clone, Copy)]
 pub enum I32Ans {
     Done(GotI32),
     Need(usize),
 }
 
-#[derive(Drop)]
+#[derive(Clone, Copy)]
 pub enum I64Ans {
     Done(GotI64),
     Need(usize),
 }
 
-#[derive(Drop)]
+#[derive(Clone, Copy)]
 pub enum I128Ans {
     Done(GotI128),
     Need(usize),

@@ -8,7 +8,7 @@ ghost use Rattle.skim.specs.Skim.{run, skim_text_of, skim_name_of, skim_texts_of
 use wire::{TextAns, U16Ans, U32Ans};
 
 // Done is where it ends.
-#[derive(Drop)]
+#[derive(Clone, Copy)]
 pub enum SkimAns {
     Done(usize),
     Need(usize),

@@ -11,39 +11,39 @@ use mark::Found;
 use wire::{GotU64, RangeAns, TextAns, U32Ans};
 
 // A storage header, and how many bytes were skipped to reach its pattern.
-#[derive(Drop)]
+#[derive(Clone, Copy)]
 pub struct Stored {
     pub header: StorageHeader,
     pub skipped: usize,
 }
 
-#[derive(Drop)]
+#[derive(Clone, Copy)]
 pub enum OptStored {
     Present(Stored),
     Absent,
 }
 
-#[derive(Drop)]
+#[derive(Clone, Copy)]
 pub struct GotStorage {
     pub v: OptStored,
     pub next: usize,
 }
 
-#[derive(Drop)]
+#[derive(Clone, Copy)]
 pub enum StorageAns {
     Done(GotStorage),
     Need(usize),
 }
 
 // The position behind a tag.
-#[derive(Drop)]
+#[derive(Clone, Copy)]
 pub enum TagAns {
     Done(usize),
     Need(usize),
     Hickup(u8),
 }
 
-#[derive(Drop)]
+#[derive(Clone, Copy)]
 pub enum SkipAns {
     Done(GotU64),
     Need(usize),
@@ -51,19 +51,19 @@ pub enum SkipAns {
 }
 
 // How many bytes a message had, storage header and all.
-#[derive(Drop)]
+#[derive(Clone, Copy)]
 pub enum OptCount {
     Present(u64),
     Absent,
 }
 
-#[derive(Drop)]
+#[derive(Clone, Copy)]
 pub struct GotCount {
     pub v: OptCount,
     pub next: usize,
 }
 
-#[derive(Drop)]
+#[derive(Clone, Copy)]
 pub enum ConsumeAns {
     Done(GotCount),
     Need(usize),

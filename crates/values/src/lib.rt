@@ -10,33 +10,33 @@ use reals::{F32Ans, F64Ans, Real32, Real64};
 use signed::{I8Ans, I16Ans, I32Ans, I64Ans, I128Ans};
 use wire::{U8Ans, U16Ans, U32Ans, U64Ans, U128Ans};
 
-#[derive(Drop)]
+#[derive(Clone, Copy)]
 pub struct GotValue {
     pub v: Value,
     pub next: usize,
 }
 
-#[derive(Drop)]
+#[derive(Clone, Copy)]
 pub enum ValueAns {
     Done(GotValue),
     Need(usize),
 }
 
 // Which number some bytes are.
-#[derive(Drop)]
+#[derive(Clone, Copy)]
 pub enum Numeric {
     Unsigned(TypeLength),
     Signed(TypeLength),
     Float(FloatWidth),
 }
 
-#[derive(Drop)]
+#[derive(Clone, Copy)]
 pub struct GotPoint {
     pub v: FixedPoint,
     pub next: usize,
 }
 
-#[derive(Drop)]
+#[derive(Clone, Copy)]
 pub enum PointAns {
     Done(GotPoint),
     Need(usize),
