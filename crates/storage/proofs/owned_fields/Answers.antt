@@ -1,0 +1,15 @@
+-- `storage::owned_fields` meets its contract: `search` goes through the rule as the code does.
+use Rattle.std.proofs.Common.{arith}
+use borrow.Author.Rules.{rules}
+use Rattle.storage.proofs.Reading.{storage-reading}
+use Rattle.storage.specs.Storage.{owned, stored_of}
+use Rattle.storage.proofs.owned_fields.Goals as goal
+
+pub returns-in-Need : goal.returns-in-Need
+unfolding owned stored_of
+returns-in-Need c = search storage-reading depth 20
+
+pub returns : goal.returns
+unfolding owned stored_of
+returns c = search storage-reading depth 20
+
