@@ -45,7 +45,7 @@ of_number w s at e = let r = inverse.of_number true w s at e in (r.0 ∙ big_num
 of_maybe_number : {o : OptNum} {n : ℕ} (t : Bool) (s : List ℕ) (at : ℕ) → maybe_number_of t s at ≡ done o n
     → (o ≡ pick t (OptNum.Present (big_endian_of 4 s at)) OptNum.Absent) × (n ≡ at + pick t 4 0)
 of_maybe_number t s at e =
-    let r = inverse.of-maybe-number t s at e in
+    let r = inverse.of_maybe_number t s at e in
     (r.0 ∙ ap (λ (v : ℕ). pick t (OptNum.Present v) OptNum.Absent) (big_number 4 s at), r.1)
 
 pub one_byte : (s : List ℕ) (at : ℕ) → big_endian_of 1 s at ≡ get_or s at 0

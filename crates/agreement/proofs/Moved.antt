@@ -41,13 +41,16 @@ module _ (s : List ℕ) (i : ℕ) (t : List ℕ) (j n : ℕ) (e : Same s i t j n
   unfolding sequence
   sequence_moved p = among_moved table (rw (add-zero i, add-zero j) at (e 0 p))
 
-pub valid_moved : {i n : ℕ} (s t : List ℕ) (j : ℕ) → Same s i t j n → ValidUtf8 s i n → ValidUtf8 t j n
-valid_moved s t j e empty = empty
-valid_moved {i} s t j e (more {n = n} w p q v) =
+moved_by : (s : List ℕ) {i n : ℕ} (t : List ℕ) (j : ℕ) → Same s i t j n → ValidUtf8 s i n → ValidUtf8 t j n
+moved_by s t j e empty = empty
+moved_by s {i} t j e (more {n = n} w p q v) =
     let near : Same s i t j w = λ k h. e k (omega arith) in
     let far : Same s (i + w) t (j + w) n = λ k h.
     let a : i + w + k ≡ i + (w + k) = omega arith in
     let b : j + w + k ≡ j + (w + k) = omega arith in
     ap (λ (m : ℕ). get_or s m 0) a ∙ e (w + k) (omega arith) ∙ sym (ap (λ (m : ℕ). get_or t m 0) b)
     in
-    more w p (sym (sequence_moved s i t j w near p) ∙ q) (valid_moved s t (j + w) far v)
+    more w p (sym (sequence_moved s i t j w near p) ∙ q) (moved_by s t (j + w) far v)
+
+pub valid_moved : {i n : ℕ} (s t : List ℕ) (j : ℕ) → Same s i t j n → ValidUtf8 s i n → ValidUtf8 t j n
+valid_moved s t j e v = moved_by s t j e v

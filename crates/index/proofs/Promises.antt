@@ -142,7 +142,7 @@ module _ {A : Type 0} (form : Form A) (sound : Sound form) (f : List ℕ) (filte
       ∙ sym (goes_ahead form f (n + m) s st T filter h (le-ltb _ _ g))
     where
       by : (e : Ends ℕ) (more : Out ℕ ℕ)
-          → unless_paused (end_of e) (laid form T st.used (out n s st T)) (laid form T st.used more) ≡ laid form T st.used (walking.unless-paused e (out n s st T) more)
+          → unless_paused (end_of e) (laid form T st.used (out n s st T)) (laid form T st.used more) ≡ laid form T st.used (walking.unless_paused e (out n s st T) more)
       by Ends.Paused more = refl
       by Ends.Full more = refl
       by (Ends.Waits need) more = refl

@@ -1,0 +1,24 @@
+-- `skim::skim_word` meets its contract: `search` goes through the rule as the code does.
+use Rattle.std.proofs.Common.{arith}
+use borrow.Author.Rules.{rules}
+use Rattle.skim.proofs.Reading.{skim-reading, word_none}
+use Rattle.skim.proofs.skim_word.Goals as goal
+
+pub returns-in-1 : goal.returns-in-1
+returns-in-1 c = search skim-reading depth 20
+
+pub returns-in-2 : goal.returns-in-2
+returns-in-2 c = search skim-reading depth 20
+
+pub returns-in-8 : goal.returns-in-8
+returns-in-8 c = search skim-reading depth 20
+
+pub returns-in-32 : goal.returns-in-32
+returns-in-32 c = search skim-reading depth 20
+
+pub returns-in-64 : goal.returns-in-64
+returns-in-64 c = search skim-reading depth 20
+
+pub returns-in_default : goal.returns-in_default
+returns-in_default c = search rules
+
