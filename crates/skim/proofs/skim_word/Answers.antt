@@ -20,5 +20,5 @@ pub returns-in-64 : goal.returns-in-64
 returns-in-64 c = search skim-reading depth 20
 
 pub returns-in_default : goal.returns-in_default
-returns-in_default c = search rules
+returns-in_default c = let r = c.in_default.in_default-own.rest in word_none _ _ _ _ r.0.0.0.0.1 r.0.0.0.1 r.0.0.1 r.0.1 r.1
 
