@@ -1,5 +1,5 @@
--- `cursor::raw_of` meets its contract: the tag of a raw value is none of the others'.
--- Assumes nothing.
+-- `cursor::raw_of` meets its contract: a value that is none of raw is one of the others.
+use Rattle.std.proofs.Common.{arith}
 use Prim.Native.Nat.{ℕ}
 use mathlib.Core.Path.{◌≡◌, refl}
 use mathlib.Core.List.{List, [], ◌∷◌}
@@ -10,13 +10,10 @@ use Rattle.headertype.specs.declared.OptRange.{OptRange}
 use Rattle.dlt.specs.declared.Value.{Value}
 use Rattle.dlt.specs.contracts.Value as value
 use Rattle.cursor.specs.Raw.{raw_of_lem}
-use Rattle.cursor.proofs.raw_of.Statement.{statement}
-use Rattle.cursor.proofs.raw_of.Tie as tie
+use Rattle.wire.specs.declared.Range.{Range}
+use Rattle.cursor.proofs.raw_of.Goals as goal
 
-abbrev tags : List ℕ
-tags = 0 ∷ 1 ∷ 2 ∷ 3 ∷ 4 ∷ 5 ∷ 6 ∷ 7 ∷ 8 ∷ 9 ∷ 10 ∷ 11 ∷ 12 ∷ 13 ∷ 14 ∷ 15 ∷ []
-
-others : (v : Value) → OneOf tags (tag_of value.the_type v) → OptRange.Absent ≡ raw_of_lem v
+others : (v : Value) → ((x : Range) → v ≡ Value.Raw x → ⊥) → OptRange.Absent ≡ raw_of_lem v
 unfolding raw_of_lem
 others (Value.Bool v) h = refl
 others (Value.U8 v) h = refl
@@ -34,19 +31,12 @@ others (Value.F64 v) h = refl
 others (Value.F32NotANumber v) h = refl
 others (Value.F64NotANumber v) h = refl
 others (Value.StringVal v) h = refl
-others (Value.Raw r) h = absurd (miss tags 16 tt h)
+others (Value.Raw r) h = absurd (h r refl)
 
-returns : tie.Need-returns
+pub returns-in-Raw : goal.returns-in-Raw
 unfolding raw_of_lem
-returns c = rw c.before.v.given.1
+returns-in-Raw c = rw c.in-Raw.is
 
-returns-2 : tie.Need-returns-2
-returns-2 c = others c.before.args.v c.match.keys2
+pub returns-in_default : goal.returns-in_default
+returns-in_default c = others c.args.v c.in_default.not-Raw
 
-pub raw_of_spec : {M : Type 1} → statement M
-raw_of_spec =
-    tie.close
-    (tie.spec
-    (λ c. search rules)
-    returns
-    returns-2)
