@@ -1,0 +1,27 @@
+-- `payload::network_type` meets its contract: `search` goes through the rule as the code does.
+use Rattle.std.proofs.Common.{arith}
+use borrow.Author.Rules.{rules}
+use Rattle.payload.proofs.Reading.{tables}
+use Rattle.payload.specs.Payload.{network_type_of}
+use Rattle.payload.proofs.network_type.Goals as goal
+
+pub returns-in-Log : goal.returns-in-Log
+unfolding network_type_of
+returns-in-Log c = search tables depth 20
+
+pub returns-in-ApplicationTrace : goal.returns-in-ApplicationTrace
+unfolding network_type_of
+returns-in-ApplicationTrace c = search tables depth 20
+
+pub returns-in-NetworkTrace : goal.returns-in-NetworkTrace
+unfolding network_type_of
+returns-in-NetworkTrace c = search tables depth 20
+
+pub returns-in-Control : goal.returns-in-Control
+unfolding network_type_of
+returns-in-Control c = search tables depth 20
+
+pub returns-in-Unknown : goal.returns-in-Unknown
+unfolding network_type_of
+returns-in-Unknown c = search tables depth 20
+

@@ -1,0 +1,39 @@
+-- `signals::content_of` meets its contract: `search` goes through the rule as the code does.
+use Rattle.std.proofs.Common.{arith}
+use borrow.Author.Rules.{rules}
+use Rattle.signals.proofs.Reading.{contents}
+use Rattle.signals.specs.Signal.{content}
+use Rattle.signals.proofs.content_of.Goals as goal
+
+pub returns-in-StringType : goal.returns-in-StringType
+unfolding content
+returns-in-StringType c = search contents depth 20
+
+pub returns-in-Raw : goal.returns-in-Raw
+unfolding content
+returns-in-Raw c = search contents depth 20
+
+pub returns-in-Bool : goal.returns-in-Bool
+unfolding content
+returns-in-Bool c = search contents depth 20
+
+pub returns-in-Float : goal.returns-in-Float
+unfolding content
+returns-in-Float c = search contents depth 20
+
+pub returns-in-Signed : goal.returns-in-Signed
+unfolding content
+returns-in-Signed c = search contents depth 20
+
+pub returns-in-SignedFixedPoint : goal.returns-in-SignedFixedPoint
+unfolding content
+returns-in-SignedFixedPoint c = search contents depth 20
+
+pub returns-in-Unsigned : goal.returns-in-Unsigned
+unfolding content
+returns-in-Unsigned c = search contents depth 20
+
+pub returns-in-UnsignedFixedPoint : goal.returns-in-UnsignedFixedPoint
+unfolding content
+returns-in-UnsignedFixedPoint c = search contents depth 20
+
