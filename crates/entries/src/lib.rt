@@ -1,7 +1,7 @@
 // The trace index over a lent slice of entry structs.
 //
-// All that is decided is decided in functions over values: `first` and `next` say what is due, as a `Turn`. The loop of `index_entries`, which is
-// proved by hand, tests one bool, stores one entry and asks for the next turn.
+// All that is decided is decided in functions over values: `first` and `next` say what is due, as a `Turn`. The loop of `index_entries`
+// tests one bool, stores one entry and asks for the next turn.
 #![tactic(auto)]
 ghost use Rattle.std.specs.Prelude.{◌≡◌, ◌+◌, ◌≤◌, length, drop};
 ghost use Rattle.step.specs.Step.{asked};
