@@ -1,6 +1,6 @@
 // The index call over a table of entry structs that is handed over and handed back by value, and over a fresh one.
 //
-// All that `index_own` does is lend the table to `entries::index_entries`: a function that lends an array of structs is proved by hand.
+// All that `index_own` does is lend the table to `entries::index_entries`.
 #![tactic(auto)]
 ghost use Rattle.std.specs.Prelude.{◌≡◌, replicate};
 ghost use Rattle.index.specs.Index.{call};
@@ -11,7 +11,7 @@ use entries::Entry;
 use index::{Indexed, State};
 
 // A table of 1,024 places, and what the call that filled it answered.
-#[derive(Clone, Copy)]
+#[derive(Drop)]
 pub struct Filled {
     pub answer: Indexed,
     pub table: [Entry; 1024],
