@@ -1,5 +1,5 @@
 -- Each header field that is read is the protocol's field of the same bytes. (Of the bytes only HTYP is asked to be one: a number below 256.)
-use Prim.Native.Nat.{ℕ, zero, suc, ◌+◌, ◌-◌, ◌*◌, ◌/◌, ◌%◌, ◌<◌}
+use Prim.Native.Nat.{ℕ, zero, suc, ◌+◌, ◌*◌, ◌<◌}
 use native.Mathlib.Omega.{arith}
 use native.Mathlib.Nat.{add-zero}
 use mathlib.Core.Path.{◌≡◌, refl, sym, ap, ap₂, ◌∙◌, subst}
@@ -7,11 +7,9 @@ use mathlib.Core.Bool.{Bool, true, false}
 use mathlib.Core.List.{List}
 use lib.ListN.{length, get_or}
 use lib.Dec.{leb}
-use Rattle.wire.specs.Answer.{Ans, Parser}
-use Rattle.wire.specs.Answer.Ans.{done, need, hickup, broken}
-use Rattle.wire.specs.Parser.{pick, ◌>>=◌, ret, refuse, choose}
+use Rattle.wire.specs.Answer.Ans.{done}
+use Rattle.wire.specs.Parser.{pick, ret, refuse, choose}
 use Rattle.wire.specs.Number.{digits, number_of, number}
-use Rattle.wire.specs.declared.Range.{Range}
 use Rattle.strings.specs.Text.{text_of, ended_text, identified}
 use Rattle.headertype.specs.Bits.{flag}
 use Rattle.headertype.specs.HeaderType.{all_headers}
@@ -21,11 +19,11 @@ use Rattle.headertype.specs.declared.StandardHeader.{StandardHeader}
 use Rattle.messageinfo.specs.declared.ExtendedHeader.{ExtendedHeader}
 use Rattle.headers.specs.Standard.{maybe_id, maybe_number_of, endian_of, header_of_lem, flagged, standard}
 use Rattle.headers.specs.Extended.{extended_of_lem, named, extended}
-use Rattle.protocol.specs.Fields.{UEH, WEID, WSID, WTMS, Field, width, offset, headers, big_endian_of, field_number}
+use Rattle.protocol.specs.Fields.{UEH, WEID, WSID, WTMS, Field, width, offset, headers, big_endian_of}
 use Rattle.protocol.specs.Msin.{VERB}
 use Rattle.protocol.proofs.Lengths.{headers_length}
 use Rattle.protocol.proofs.Names.{type_read, subtype_read}
-use Rattle.agreement.specs.Agree.{htyp_of, number_field, IdField, MaybeIdField, StandardAgrees, ExtendedAgrees}
+use Rattle.agreement.specs.Agree.{htyp_of, IdField, MaybeIdField, StandardAgrees, ExtendedAgrees}
 use Rattle.agreement.proofs.Text.{text_identifier, text_ended, text_inside}
 use Rattle.headers.proofs.Inverse as inverse
 use Rattle.headers.proofs.Inverse.{Split, split, of_ret, of_refuse, of_id, of_maybe_id}

@@ -1,7 +1,7 @@
 -- Worked examples, on the rule. Each computes.
 use mathlib.Core.Path.{◌≡◌, refl}
 use mathlib.Core.List.{[], ◌∷◌}
-use mathlib.Core.Bool.{Bool, true, false}
+use mathlib.Core.Bool.{true, false}
 use Prim.Native.Nat.{ℕ}
 use lib.Ieee.{nan_bits}
 use lib.IntN.{pos, negsuc}

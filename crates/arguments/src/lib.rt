@@ -1,6 +1,7 @@
 // One argument of a verbose payload, of any kind: port of `dlt_type_info` and `dlt_argument` in parse.rs of dlt-core 0.20.2 (Apache-2.0,
 // NOTICE). Signed, unsigned and float numbers share a function, and so do both fixed-point kinds, and strings and raw bytes.
 #![tactic(auto)]
+
 ghost use Rattle.std.specs.Prelude.{◌≡◌};
 ghost use Rattle.values.specs.Value.{value_ans};
 ghost use Rattle.arguments.specs.Argument.{type_info_of, boolean, plain, scaled, content, sized, kinded, argument, type_info_ans, argument_ans};

@@ -1,6 +1,7 @@
 // As many arguments as are counted, passed in one call or handed out one a call by a cursor, all of them or the raw values alone: port of what
 // `dlt_payload` in parse.rs of dlt-core 0.20.2 does by nom's `count` (Apache-2.0, NOTICE).
 #![tactic(auto)]
+
 ghost use Rattle.std.specs.Prelude.{◌≡◌};
 ghost use Rattle.cursor.specs.Cursor.{arguments, pass_ans, turn, turn_ans};
 ghost use Rattle.cursor.specs.Raw.{raw_of_lem, raw_turn, raw_turn_ans};

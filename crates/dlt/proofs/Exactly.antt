@@ -11,7 +11,7 @@ use Rattle.wire.specs.Parser.{pick}
 use Rattle.headertype.specs.Bits.{bit, flag, both, either, from_to}
 use Rattle.dlt.specs.TypeInfoWord.{type_length_of, float_width_of, signed_of, unsigned_of, float_of, kind_by, kind_of, decoded_of, type_info_of_lem, decoded_ans}
 use Rattle.dlt.specs.Accepted.{accepted, acceptable}
-use Rattle.headertype.proofs.Every.{every, same, same_is, every_two}
+use Rattle.headertype.proofs.Every.{same, same_is, every_two}
 use Rattle.dlt.specs.declared.OptKind.{OptKind}
 use Rattle.dlt.specs.declared.Decoded.{Decoded}
 

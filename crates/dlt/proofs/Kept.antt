@@ -2,19 +2,18 @@
 -- Assumes nothing.
 use Prim.Native.Nat.{ℕ, ◌+◌, ◌*◌, ◌/◌, ◌%◌, ◌<◌}
 use native.Mathlib.Omega.{arith}
-use mathlib.Core.Path.{◌≡◌, refl, sym, ap, ◌∙◌}
+use mathlib.Core.Path.{◌≡◌, refl, sym, ◌∙◌}
 use mathlib.Core.Bool.{Bool, true, false}
 use lib.Dec.{eqb}
 use borrow.Author.Tests.{eqb-true}
 use Rattle.wire.specs.Parser.{pick}
 use Rattle.headertype.specs.Bits.{bit, flag, either}
-use Rattle.headertype.proofs.Every.{every, numbers, every_two}
+use Rattle.headertype.proofs.Every.{numbers, every_two}
 use Rattle.headertype.specs.Bits.{one_if_of}
 use Rattle.dlt.specs.TypeInfoWord.{type_length_of, float_width_of, signed_of, unsigned_of, float_of, kind_by, kind_of, coding_of_lem, decoded_of, type_info_of_lem}
-use Rattle.dlt.specs.Accepted.{accepted, acceptable}
+use Rattle.dlt.specs.Accepted.{acceptable}
 use Rattle.dlt.specs.Kept.{kind_word, coding_number_of, decoded_word, integer, kept_length, kept_fixed, packed, kept_bits}
 use Rattle.dlt.specs.declared.OptKind.{OptKind}
-use Rattle.dlt.specs.declared.TypeInfoKind.{TypeInfoKind}
 use Rattle.dlt.proofs.Exactly.{known, decoded_known, exactly}
 
 -- ---- kept: the word can be read back from the answer

@@ -1,5 +1,5 @@
 -- What a decoded type info still says of the bits that it was made of.
-use Rattle.std.specs.Prelude.{ℕ, ◌+◌, ◌*◌, ◌/◌, ◌%◌, Bool, true, false, eqb}
+use Rattle.std.specs.Prelude.{ℕ, ◌+◌, ◌*◌, ◌/◌, ◌%◌, Bool, eqb}
 use Rattle.wire.specs.Parser.{pick}
 use Rattle.headertype.specs.Bits.{bit, either}
 use Rattle.headertype.specs.Bits.{one_if_of}

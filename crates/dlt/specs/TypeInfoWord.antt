@@ -1,6 +1,6 @@
 -- Document 01, type info: bits 0 to 3 length (1 to 5 for 8 to 128 bits), 4 bool, 5 signed, 6 unsigned, 7 float, 9 string, 10 raw,
 -- 11 variable info, 12 fixed point, 13 trace info, 15 to 17 coding.
-use Rattle.std.specs.Prelude.{ℕ, ◌/◌, ◌%◌, Bool, true, false, eqb}
+use Rattle.std.specs.Prelude.{ℕ, ◌/◌, ◌%◌, Bool, eqb}
 use Rattle.wire.specs.Answer.{Ans}
 use Rattle.wire.specs.Answer.Ans.{done, hickup}
 use Rattle.wire.specs.Parser.{pick}

@@ -4,6 +4,7 @@
 //
 // A String or a Vec is a range of the caller's bytes; a String says why it ended. An Option is an enum for each type. A bit is read by `/` and `%`.
 #![tactic(auto)]
+
 ghost use Rattle.std.specs.Prelude.{◌≡◌, ◌%◌};
 ghost use Rattle.dlt.specs.TypeInfoWord.{type_length_of, float_width_of, wide_length, length_bytes, float_bytes, signed_of, unsigned_of, float_of, kind_of, coding_of_lem, type_info_of_lem};
 

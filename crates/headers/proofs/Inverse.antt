@@ -26,7 +26,6 @@ use Rattle.headertype.specs.declared.OptNum.{OptNum}
 use Rattle.headertype.specs.declared.OptText.{OptText}
 use Rattle.headers.specs.Standard.{maybe_id, maybe_number_of, header_of_lem, flagged, standard}
 use Rattle.headers.specs.Extended.{extended_of_lem, named, extended}
-use Rattle.headers.proofs.Laws.{maybe_id_law}
 
 -- two answers that are one
 module _ {A : Type 0} {a : A} {n : ℕ} where

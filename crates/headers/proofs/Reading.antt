@@ -3,7 +3,7 @@ use Prim.Native.Nat.{ℕ}
 use mathlib.Core.Path.{◌≡◌, refl}
 use mathlib.Core.List.{List}
 use Rattle.wire.specs.Answer.{Ans, Parser}
-use Rattle.wire.specs.Answer.Ans.{done, need, hickup}
+use Rattle.wire.specs.Answer.Ans.{need, hickup}
 use Rattle.wire.specs.Parser.{◌>>=◌}
 use Rattle.wire.proofs.Reading.{by_done, by_need, by_hickup, reading}
 use Rattle.headertype.specs.declared.OptNum.{OptNum}

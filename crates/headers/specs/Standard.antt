@@ -1,11 +1,10 @@
 -- Document 01, step 3: the standard header.
-use Rattle.std.specs.Prelude.{ℕ, ◌+◌, ◌-◌, ◌/◌, Bool, true, false, leb}
+use Rattle.std.specs.Prelude.{ℕ, ◌-◌, ◌/◌, Bool, true, leb}
 use Rattle.wire.specs.Answer.{Ans, Parser}
 use Rattle.wire.specs.Answer.Ans.{done, need, hickup}
 use Rattle.wire.specs.Parser.{ret, refuse, choose, pick, ◌>>=◌}
 use Rattle.wire.specs.Number.{number}
 use Rattle.wire.specs.Run.{bytes}
-use Rattle.wire.specs.declared.Range.{Range}
 use Rattle.strings.specs.Text.{identified}
 use Rattle.headertype.specs.Bits.{flag}
 use Rattle.headertype.specs.HeaderType.{all_headers}

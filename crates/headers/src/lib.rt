@@ -1,6 +1,7 @@
 // The standard and the extended header: port of `dlt_standard_header`, `dlt_extended_header`, `maybe_parse_ecu_id`, `maybe_parse_u32` and
 // `parse_length` in parse.rs of dlt-core 0.20.2 (Apache-2.0, NOTICE).
 #![tactic(auto)]
+
 ghost use Rattle.std.specs.Prelude.{◌≡◌, ◌≤◌};
 ghost use Rattle.wire.specs.Number.{u16_ans};
 ghost use Rattle.headertype.specs.HeaderType.{all_headers};

@@ -1,5 +1,5 @@
 -- Document 01, step 3: the header type byte. Bit 0 extended header, 1 big-endian payload, 2 ECU id, 3 session id, 4 timestamp; bits 5 to 7 version.
-use Rattle.std.specs.Prelude.{ℕ, ◌+◌, ◌*◌, ◌/◌, ◌%◌}
+use Rattle.std.specs.Prelude.{ℕ, ◌+◌, ◌*◌, ◌%◌}
 use Rattle.headertype.specs.Bits.{bit, one_if_of}
 use Rattle.headertype.specs.declared.Endianness.{Endianness}
 use Rattle.headertype.specs.declared.OptNum.{OptNum}

@@ -3,6 +3,7 @@
 //
 // An identifier is a range of the caller's bytes, and why it ended. An Option is an enum for each type. A bit is read by `/` and `%`.
 #![tactic(auto)]
+
 ghost use Rattle.std.specs.Prelude.{◌≡◌, ◌≤◌};
 ghost use Rattle.headertype.specs.Bits.{one_if_of};
 ghost use Rattle.headertype.specs.HeaderType.{big_bit_of, text_bit_of, num_bit_of, standard_length, all_headers, header_type_byte_of, overall_length_of};

@@ -3,6 +3,7 @@
 // so a few places are then tried one by one. After these come blocks of places: a block where the pattern doesn't stand is skipped as a whole, and
 // the plain search tells the place in the first block that isn't. docs/DECISIONS.md has the reasons ("The search for the pattern").
 #![tactic(auto)]
+
 ghost use Rattle.std.specs.Prelude.{◌≡◌, Bool, true, false, ◌+◌, ◌*◌, ◌≤◌, length};
 ghost use Rattle.wire.specs.Parser.{pick};
 ghost use Rattle.mark.specs.First.{pattern, find};

@@ -1,6 +1,6 @@
 -- Document 01, step 4: the message info byte. Bit 0 is verbose, bits 1 to 3 the type, 4 to 7 the subtype.
 -- Every byte has a message type: none is refused (reasons, `no-info-refused`).
-use Rattle.std.specs.Prelude.{ℕ, ◌+◌, ◌*◌, ◌/◌, ◌%◌, eqb}
+use Rattle.std.specs.Prelude.{ℕ, ◌/◌, ◌%◌, eqb}
 use Rattle.wire.specs.Parser.{pick}
 use Rattle.messageinfo.specs.declared.LogLevel.{LogLevel}
 use Rattle.messageinfo.specs.declared.OptLevel.{OptLevel}

@@ -1,6 +1,7 @@
 // The names of an argument with variable info: port of `dlt_variable_name` and `dlt_variable_name_and_unit` in parse.rs of dlt-core 0.20.2
 // (Apache-2.0, NOTICE). A name of size 0 is present and empty.
 #![tactic(auto)]
+
 ghost use Rattle.std.specs.Prelude.{◌≡◌};
 ghost use Rattle.wire.specs.Run.{text_ans};
 ghost use Rattle.names.specs.Names.{name, maybe_name, texts, name_and_unit_of, maybe_names, name_ans, names_ans};

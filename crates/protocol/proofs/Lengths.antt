@@ -9,7 +9,7 @@ use lib.ListN.{get_or}
 use borrow.Author.Tests.{eqb-true}
 use Rattle.wire.specs.Parser.{pick}
 use Rattle.headertype.specs.Bits.{bit}
-use Rattle.headertype.proofs.Every.{every, every_at, numbers}
+use Rattle.headertype.proofs.Every.{every_at, numbers}
 use Rattle.headertype.specs.HeaderType.{standard_length, all_headers}
 use Rattle.protocol.specs.Fields.{UEH, Field, in_order, headers, place, offset}
 

@@ -1,6 +1,6 @@
 -- Every MSIN is read as the protocol's type and subtype, and by its name but for five values; which values the crate passes though they are reserved.
 -- Assumes nothing.
-use Prim.Native.Nat.{ℕ, ◌/◌, ◌%◌, ◌<◌}
+use Prim.Native.Nat.{ℕ, ◌<◌}
 use native.Mathlib.Omega.{arith}
 use mathlib.Core.Path.{◌≡◌, refl, sym, ap, ◌∙◌}
 use mathlib.Core.Bool.{Bool, true, false}
@@ -8,10 +8,10 @@ use mathlib.Core.List.{List, [], ◌∷◌}
 use lib.Dec.{eqb}
 use lib.ListN.{get_or}
 use borrow.Author.Tests.{eqb-true, eq-eqb}
-use Rattle.headertype.specs.Bits.{no, both, either}
+use Rattle.headertype.specs.Bits.{no}
 use Rattle.messageinfo.specs.MessageInfo.{known_level, log_level_of, application_trace_of, network_trace_of, control_of, message_type_by, message_type_of}
 use Rattle.messageinfo.specs.Kept.{type_number_of, subtype_number_of}
-use Rattle.headertype.proofs.Every.{every, tests}
+use Rattle.headertype.proofs.Every.{tests}
 use Rattle.messageinfo.proofs.Bytes.{type_kept, subtype_kept}
 use Rattle.protocol.specs.Msin.{MSTP, MTIN, Name, name_of, later_name_of, named_as, reserved_set, other_name, other_later_name, unnamed}
 

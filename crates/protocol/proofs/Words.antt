@@ -1,19 +1,18 @@
 -- The type info words that the crate and the protocol both have, with one meaning; that the crate alone accepts; that the protocol alone has. Each set is
 -- exact, by a test that computes at every number of bits 4 to 10, every length, and the fixed-point, trace-info and struct bits.
 -- Assumes nothing.
-use Prim.Native.Nat.{ℕ, ◌+◌, ◌*◌, ◌/◌, ◌%◌, ◌<◌}
+use Prim.Native.Nat.{ℕ, ◌/◌, ◌%◌, ◌<◌}
 use native.Mathlib.Omega.{arith}
 use mathlib.Core.Path.{◌≡◌, refl, sym, ap, subst, ◌∙◌}
 use mathlib.Core.Bool.{Bool, true, false}
 use lib.Dec.{eqb}
 use borrow.Author.Tests.{eqb-true}
 use Rattle.wire.specs.Parser.{pick}
-use Rattle.headertype.specs.Bits.{flag, no, both, either, from_to}
+use Rattle.headertype.specs.Bits.{flag, no, both, either}
 use Rattle.headertype.proofs.Every.{every, both_left, both_right, same, same_is, every_two}
 use Rattle.dlt.specs.TypeInfoWord.{type_length_of, float_width_of, signed_of, unsigned_of, float_of, kind_by, kind_of, coding_of_lem, decoded_of, type_info_of_lem}
-use Rattle.dlt.specs.Accepted.{accepted, acceptable}
+use Rattle.dlt.specs.Accepted.{accepted}
 use Rattle.dlt.specs.Kept.{coding_number_of}
-use Rattle.dlt.specs.declared.TypeInfoKind.{TypeInfoKind}
 use Rattle.dlt.specs.declared.OptKind.{OptKind}
 use Rattle.dlt.specs.declared.TypeInfo.{TypeInfo}
 use Rattle.dlt.specs.declared.Decoded.{Decoded}

@@ -1,5 +1,5 @@
 -- The fields of the standard and the extended header: which are there, in which order, how wide, and where each stands.
-use Rattle.std.specs.Prelude.{ℕ, zero, suc, ◌+◌, ◌-◌, ◌*◌, ◌/◌, ◌%◌, Bool, true, false, List, [], ◌∷◌, get_or, take, drop}
+use Rattle.std.specs.Prelude.{ℕ, zero, suc, ◌+◌, ◌-◌, ◌*◌, ◌/◌, ◌%◌, Bool, true, List, [], ◌∷◌, get_or, take, drop}
 use Rattle.wire.specs.Parser.{pick}
 use Rattle.headertype.specs.Bits.{flag}
 

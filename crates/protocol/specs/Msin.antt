@@ -1,5 +1,5 @@
 -- MSIN, the message info of the extended header: bit 0 VERB, bits 1 to 3 MSTP (message type), bits 4 to 7 MTIN (message type info).
-use Rattle.std.specs.Prelude.{ℕ, ◌/◌, ◌%◌, Bool, true, false, eqb}
+use Rattle.std.specs.Prelude.{ℕ, ◌/◌, ◌%◌, Bool, true, eqb}
 use Rattle.wire.specs.Parser.{pick}
 use Rattle.headertype.specs.Bits.{flag, no, both, either, from_to}
 use Rattle.messageinfo.specs.declared.LogLevel.{LogLevel}

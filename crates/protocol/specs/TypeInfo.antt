@@ -1,5 +1,5 @@
 -- The type info word of a verbose argument, by the protocol's fields; which words the protocol has, and what they mean.
-use Rattle.std.specs.Prelude.{ℕ, ◌+◌, ◌/◌, ◌%◌, Bool, true, false, leb, eqb}
+use Rattle.std.specs.Prelude.{ℕ, ◌+◌, ◌/◌, ◌%◌, Bool, true, leb, eqb}
 use Rattle.wire.specs.Parser.{pick}
 use Rattle.headertype.specs.Bits.{flag, both, either, from_to}
 use Rattle.headertype.specs.Bits.{one_if_of}

@@ -1,5 +1,4 @@
 -- Each contract fixes the answer (wire's Determined.antt).
-use Prim.Native.Nat.{ℕ}
 use mathlib.Core.Path.{◌≡◌, refl}
 use Rattle.wire.specs.Answer.{Ans}
 use Rattle.wire.proofs.Determined.{one_answer, back}

@@ -5,7 +5,7 @@ use mathlib.Core.Bool.{Bool}
 use mathlib.Core.List.{List}
 use lib.Ieee.{binary32, binary64}
 use Rattle.wire.specs.Answer.{Ans, Parser}
-use Rattle.wire.specs.Answer.Ans.{done, need}
+use Rattle.wire.specs.Answer.Ans.{need}
 use Rattle.wire.specs.Parser.{◌>>=◌}
 use Rattle.wire.specs.Lawful.{Lawful}
 use Rattle.wire.proofs.Digits.{numeric_law}

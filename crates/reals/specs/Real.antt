@@ -1,6 +1,6 @@
 -- What is kept of a float's pattern, and floats of some bytes: document 01, "an f32 or an f64, kept to the bit, not-a-number included".
 -- `nan_bits` says that the exponent's field is all ones and the digits' field isn't 0.
-use Rattle.std.specs.Prelude.{ℕ, Bool, true, false, Float}
+use Rattle.std.specs.Prelude.{ℕ, Bool, Float}
 use Rattle.std.specs.Float.{Format, binary32, binary64}
 use Rattle.std.specs.Float.Ieee.{nan_bits, of_bits, to_bits}
 use Rattle.wire.specs.Answer.{Ans, Parser}

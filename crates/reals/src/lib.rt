@@ -2,6 +2,7 @@
 // (Apache-2.0, NOTICE). `f32::from_bits` is undefined at the pattern of a NaN, and the logic has one NaN only, so such a pattern is kept as
 // the number that it is. Both widths cite one law, over the format.
 #![tactic(auto)]
+
 ghost use Rattle.std.specs.Prelude.{◌≡◌};
 ghost use Rattle.std.specs.Float.{binary32};
 ghost use Rattle.std.specs.Float.Ieee.{of_bits};

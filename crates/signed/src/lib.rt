@@ -1,6 +1,7 @@
 // Signed numbers by two's complement, in either byte order: the signed half of `NomByteOrder` in parse.rs of dlt-core 0.20.2 (Apache-2.0,
 // NOTICE). Four widths and one law over the width; 128 bits in two halves.
 #![tactic(auto)]
+
 ghost use Rattle.std.specs.Prelude.{◌≡◌, true};
 ghost use Rattle.wire.specs.Number.{numeric};
 ghost use Rattle.signed.specs.Twos.{twos, signed, signed_halves, i8_ans, i16_ans, i32_ans, i64_ans, i128_ans};

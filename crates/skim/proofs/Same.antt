@@ -1,6 +1,6 @@
 -- The rules of specs/Skim.antt are those of an argument with nothing kept. Assumes nothing.
 use Prim.Native.Nat.{ℕ, ◌+◌, ◌-◌}
-use mathlib.Core.Path.{◌≡◌, refl, sym, ap, ◌∙◌}
+use mathlib.Core.Path.{◌≡◌, refl, ap, ◌∙◌}
 use mathlib.Core.Bool.{Bool, true, false}
 use mathlib.Core.List.{List}
 use native.Mathlib.Omega.{arith}
@@ -15,7 +15,6 @@ use Rattle.strings.specs.Text.{text, ended_text, text_need}
 use Rattle.headertype.specs.declared.OptText.{OptText}
 use Rattle.dlt.specs.TypeInfoWord.{wide_length, length_bytes, float_bytes}
 use Rattle.dlt.specs.declared.FloatWidth.{FloatWidth}
-use Rattle.dlt.specs.declared.TypeLength.{TypeLength}
 use Rattle.dlt.specs.declared.TypeInfo.{TypeInfo}
 use Rattle.dlt.specs.declared.TypeInfoKind.{TypeInfoKind}
 use Rattle.dlt.specs.declared.OptPoint.{OptPoint}

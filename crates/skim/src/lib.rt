@@ -1,6 +1,7 @@
 // One argument passed: where it ends, or why it can't be read, as `dlt_argument` of the crate arguments has it, but nothing of it is kept. A string's
 // bytes are not looked at where all of them are there: only their number matters. `dlt_message` goes by this, and hands out a cursor.
 #![tactic(auto)]
+
 ghost use Rattle.std.specs.Prelude.{◌≡◌};
 ghost use Rattle.arguments.specs.Argument.{argument};
 ghost use Rattle.skim.specs.Skim.{run, skim_text_of, skim_name_of, skim_texts_of, skim_names_of, skim_plain_of, skim_point_of, skim_scaled_of, skim_bool_of, skim_string_of, skim_raw_of, bytes_of, skim_whole_of, skim_float_of, skim_fixed_of, skim_number_of, skim_word_of, passed, skim_ans};

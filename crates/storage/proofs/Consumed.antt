@@ -1,21 +1,20 @@
 -- What holds of `skip_storage_header` and `dlt_consume_msg`, and what does not.
-use Prim.Native.Nat.{ℕ, zero, suc, ◌+◌, ◌-◌, ◌≤◌, ◌<◌, zero-le}
+use Prim.Native.Nat.{ℕ, suc, ◌+◌, ◌-◌, ◌≤◌, ◌<◌, zero-le}
 use native.Mathlib.Omega.{arith}
-use native.Mathlib.Nat.{not-suc-le-zero}
-use mathlib.Core.Path.{◌≡◌, refl, sym, ap, ◌∙◌, subst}
+use mathlib.Core.Path.{◌≡◌, refl, sym, ap, ◌∙◌}
 use mathlib.Core.Bool.{Bool, true, false}
 use mathlib.Core.List.{List, [], ◌∷◌, ◌++◌}
 use lib.ListN.{length, get_or, length-append, get_or-append}
 use lib.Dec.{leb, eqb}
-use borrow.Author.Tests.{le-leb, leb-true, leb-false}
+use borrow.Author.Tests.{le-leb, leb-true}
 use Rattle.wire.specs.Answer.{Ans, Parser, numbered}
 use Rattle.wire.specs.Answer.Ans.{done, need, hickup, broken}
-use Rattle.wire.specs.Parser.{pick, follow, ◌>>=◌, asking, having, fixed, ret, here, lacking}
+use Rattle.wire.specs.Parser.{pick, follow, ◌>>=◌, asking, having, fixed, lacking}
 use Rattle.wire.specs.Lawful.{Lawful, Kept, Within, Waits, Stable, Honest}
 use Rattle.wire.specs.Run.{bytes, range}
 use Rattle.wire.proofs.Laws.{ret_law, here_law, is_two}
 use Rattle.wire.proofs.Runs.{bytes_law}
-use Rattle.headertype.specs.HeaderType.{overall_length_of, all_headers, header_type_byte_of}
+use Rattle.headertype.specs.HeaderType.{overall_length_of, all_headers}
 use Rattle.headertype.specs.declared.StandardHeader.{StandardHeader}
 use Rattle.headers.proofs.Laws.{standard_law}
 use Rattle.storage.specs.Settled.{Stays, Ends, Settled}

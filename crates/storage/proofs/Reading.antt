@@ -1,6 +1,5 @@
 -- The lemmas of this crate's answer enums and rules, for `search` (wire's Reading.antt says how).
 use Prim.Native.Nat.{ℕ, ◌+◌, ◌-◌, ◌≤◌, ◌<◌}
-use native.Mathlib.Omega.{arith}
 use mathlib.Core.Path.{◌≡◌, refl, sym, ap, ◌∙◌}
 use mathlib.Core.List.{List}
 use lib.ListN.{length}
@@ -21,7 +20,7 @@ use Rattle.mark.proofs.Laws.{found_from}
 use Rattle.headertype.specs.HeaderType.{overall_length_of}
 use Rattle.headertype.specs.declared.StandardHeader.{StandardHeader}
 use Rattle.headers.proofs.Reading.{headers-reading}
-use Rattle.storage.specs.Storage.{from_mark, marked, stored, storage, storage_ans}
+use Rattle.storage.specs.Storage.{marked, stored, storage, storage_ans}
 use Rattle.storage.specs.Consume.{skip, from, whole, consume, tag_ans, skip_ans, consume_ans}
 use Rattle.storage.specs.declared.OptStored.{OptStored}
 use Rattle.storage.specs.declared.StorageAns.{StorageAns}

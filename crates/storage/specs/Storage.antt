@@ -1,5 +1,5 @@
 -- Document 01, step 2: storage mode. The mark, the length of what it leads, and what is read there are parameters.
-use Rattle.std.specs.Prelude.{ℕ, ◌-◌, true, false, List, length, leb}
+use Rattle.std.specs.Prelude.{ℕ, ◌-◌, false, List, length, leb}
 use Rattle.wire.specs.Answer.{Ans, Parser}
 use Rattle.wire.specs.Answer.Ans.{done, need}
 use Rattle.wire.specs.Parser.{pick, ret, ◌>>=◌}

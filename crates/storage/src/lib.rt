@@ -1,5 +1,6 @@
 // Storage mode: port of `dlt_storage_header`, `skip_storage_header` and `dlt_consume_msg` in parse.rs of dlt-core 0.20.2 (Apache-2.0, NOTICE).
 #![tactic(auto)]
+
 ghost use Rattle.std.specs.Prelude.{◌≡◌, ◌+◌, ◌≤◌, take, drop};
 ghost use Rattle.mark.specs.First.{pattern};
 ghost use Rattle.storage.specs.Storage.{owned, stored, storage, storage_ans};

@@ -2,12 +2,12 @@
 use Prim.Native.Nat.{ℕ, zero, suc, ◌+◌, ◌-◌, ◌≤◌, ◌<◌, zero-le}
 use native.Mathlib.Omega.{arith}
 use native.Mathlib.Nat.{not-suc-le-zero}
-use mathlib.Core.Path.{◌≡◌, refl, sym, ap, ◌∙◌, subst}
+use mathlib.Core.Path.{◌≡◌, refl, sym}
 use mathlib.Core.Bool.{Bool, true, false, ◌&&◌}
 use mathlib.Core.List.{List, [], ◌∷◌}
 use lib.ListN.{length, get_or}
-use lib.Dec.{leb, eqb}
-use borrow.Author.Tests.{le-leb, leb-true, ne_eqb}
+use lib.Dec.{leb}
+use borrow.Author.Tests.{le-leb, ne_eqb}
 use Rattle.wire.specs.Parser.{pick}
 use Rattle.strings.specs.Utf8.{Span, Row, table, inside, fits, formed, among, sequence, onward, up_to, valid_up_to_of, ValidUtf8}
 use Rattle.strings.specs.Utf8.ValidUtf8.{empty, more}

@@ -1,16 +1,15 @@
 -- UTF-8: what the functions need of the table, and the laws of the longest valid prefix.
-use Prim.Native.Nat.{ℕ, zero, suc, ◌+◌, ◌-◌, ◌*◌, ◌≤◌, ◌<◌, zero-le}
+use Prim.Native.Nat.{ℕ, zero, suc, ◌+◌, ◌-◌, ◌≤◌, ◌<◌, zero-le}
 use native.Mathlib.Omega.{arith}
-use native.Mathlib.Numerals.{add-one}
-use native.Mathlib.Nat.{add-zero, zero-add, sub-zero, sub_self, not-suc-le-zero}
-use mathlib.Core.Path.{◌≡◌, refl, sym, ap, ap₂, ◌∙◌, subst}
+use native.Mathlib.Nat.{add-zero, zero-add, sub-zero, not-suc-le-zero}
+use mathlib.Core.Path.{◌≡◌, refl, sym, ap, ap₂, ◌∙◌}
 use mathlib.Core.Bool.{Bool, true, false, ◌&&◌}
 use mathlib.Core.List.{List, [], ◌∷◌, ◌++◌}
 use lib.ListN.{length, get_or, get_or-append}
-use lib.Dec.{leb, ltb, eqb}
-use borrow.Author.Tests.{le-leb, lt-leb, lt-ltb, le-ltb, eq-eqb, ne_eqb, leb-true, leb-false}
+use lib.Dec.{leb, eqb}
+use borrow.Author.Tests.{le-leb, lt-leb, ne_eqb, leb-true}
 use Rattle.wire.specs.Parser.{pick}
-use Rattle.strings.specs.Utf8.{Span, span, tail, inside, Row, row, table, fits, formed, among, sequence, onward, up_to, valid_up_to_of, least}
+use Rattle.strings.specs.Utf8.{Span, span, tail, inside, Row, table, fits, formed, among, sequence, onward, up_to, valid_up_to_of, least}
 
 -- ---- the bytes behind a lead byte
 module _ (rest : List Span) (n : ℕ) (s : List ℕ) (at : ℕ) where

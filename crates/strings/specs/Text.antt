@@ -1,6 +1,6 @@
 -- Strings of a size: document 01, "Strings" and "Needs".
 use Rattle.std.specs.Prelude.{ℕ, zero, suc, ◌+◌, ◌-◌, ◌≤◌, ◌<◌, ◌≡◌, Bool, true, ◌&&◌, List, length, get_or, ltb, leb, eqb}
-use Rattle.wire.specs.Answer.{Ans, Parser}
+use Rattle.wire.specs.Answer.{Parser}
 use Rattle.wire.specs.Answer.Ans.{done}
 use Rattle.wire.specs.Parser.{asking, pick}
 use Rattle.wire.specs.Run.{range}

@@ -1,6 +1,6 @@
 -- Valid UTF-8, as the Unicode standard defines it: table 3-7, "Well-Formed UTF-8 Byte Sequences". No overlong forms, no surrogates,
 -- nothing above U+10FFFF: what Rust's `str::from_utf8` accepts.
-use Rattle.std.specs.Prelude.{ℕ, zero, suc, ◌+◌, ◌-◌, ◌<◌, ◌≡◌, Bool, true, false, ◌&&◌, List, [], ◌∷◌, length, get_or, leb, eqb}
+use Rattle.std.specs.Prelude.{ℕ, zero, suc, ◌+◌, ◌-◌, ◌<◌, ◌≡◌, Bool, true, ◌&&◌, List, [], ◌∷◌, length, get_or, leb, eqb}
 use Rattle.wire.specs.Parser.{pick}
 
 -- the bytes from one to another

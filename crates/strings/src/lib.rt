@@ -2,6 +2,7 @@
 // `dlt_zero_terminated_string_intern` and `parse_ecu_id` in parse.rs of dlt-core 0.20.2 (Apache-2.0, NOTICE). `str::from_utf8` and its `valid_up_to` are written out by the
 // Unicode standard's table. Only the size's bytes are looked at.
 #![tactic(auto)]
+
 ghost use Rattle.std.specs.Prelude.{◌≡◌, [], ◌∷◌, ◌+◌, ◌-◌, ◌≤◌, ◌<◌, length, get_or};
 ghost use Rattle.wire.specs.Answer.Ans.{done};
 ghost use Rattle.wire.specs.Run.{range, text_ans};

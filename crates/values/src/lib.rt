@@ -1,6 +1,7 @@
 // Numbers as values, and a fixed point's quantization and offset: port of `dlt_uint`, `dlt_sint`, `dlt_fint` and `dlt_fixed_point` in
 // parse.rs of dlt-core 0.20.2 (Apache-2.0, NOTICE). Width and byte order are values here, not function pointers and traits.
 #![tactic(auto)]
+
 ghost use Rattle.std.specs.Prelude.{◌≡◌};
 ghost use Rattle.dlt.specs.declared.TypeLength.{TypeLength};
 ghost use Rattle.values.specs.Value.{uint, sint, fint, value, fixed_point_of, carry32, carry64, value_ans, point_ans};

@@ -1,6 +1,4 @@
 -- `arguments::argument_of` meets its contract: `search` goes through the rule as the code does.
-use Rattle.std.proofs.Common.{arith}
-use borrow.Author.Rules.{rules}
 use Rattle.arguments.proofs.Reading.{arguments-reading}
 use Rattle.arguments.specs.Argument.{kinded}
 use Rattle.arguments.proofs.argument_of.Goals as goal
@@ -36,4 +34,3 @@ returns-in-Bool c = search arguments-reading depth 20
 pub returns-in-StringType : goal.returns-in-StringType
 unfolding kinded
 returns-in-StringType c = search arguments-reading depth 20
-

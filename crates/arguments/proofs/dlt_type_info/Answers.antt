@@ -1,6 +1,4 @@
 -- `arguments::dlt_type_info` meets its contract: `search` goes through the rule as the code does.
-use Rattle.std.proofs.Common.{arith}
-use borrow.Author.Rules.{rules}
 use Rattle.arguments.proofs.Reading.{arguments-reading}
 use Rattle.arguments.specs.Argument.{type_info_of}
 use Rattle.arguments.proofs.dlt_type_info.Goals as goal
@@ -16,4 +14,3 @@ returns-in-Accepted c = search arguments-reading depth 20
 pub returns-in-Refused : goal.returns-in-Refused
 unfolding type_info_of
 returns-in-Refused c = search arguments-reading depth 20
-

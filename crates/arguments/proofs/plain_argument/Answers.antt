@@ -1,6 +1,4 @@
 -- `arguments::plain_argument` meets its contract: `search` goes through the rule as the code does.
-use Rattle.std.proofs.Common.{arith}
-use borrow.Author.Rules.{rules}
 use Rattle.arguments.proofs.Reading.{arguments-reading}
 use Rattle.arguments.specs.Argument.{plain}
 use Rattle.arguments.proofs.plain_argument.Goals as goal
@@ -16,4 +14,3 @@ returns-in-Need-number_value c = search arguments-reading depth 20
 pub returns : goal.returns
 unfolding plain
 returns c = search arguments-reading depth 20
-

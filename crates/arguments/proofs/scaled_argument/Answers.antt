@@ -1,6 +1,4 @@
 -- `arguments::scaled_argument` meets its contract: `search` goes through the rule as the code does.
-use Rattle.std.proofs.Common.{arith}
-use borrow.Author.Rules.{rules}
 use Rattle.arguments.proofs.Reading.{arguments-reading}
 use Rattle.arguments.specs.Argument.{scaled}
 use Rattle.arguments.proofs.scaled_argument.Goals as goal
@@ -20,4 +18,3 @@ returns-in-Need-number_value c = search arguments-reading depth 20
 pub returns : goal.returns
 unfolding scaled
 returns c = search arguments-reading depth 20
-

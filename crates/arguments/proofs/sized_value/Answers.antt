@@ -1,6 +1,4 @@
 -- `arguments::sized_value` meets its contract: `search` goes through the rule as the code does.
-use Rattle.std.proofs.Common.{arith}
-use borrow.Author.Rules.{rules}
 use Rattle.arguments.proofs.Reading.{arguments-reading}
 use Rattle.arguments.specs.Argument.{content}
 use Rattle.arguments.proofs.sized_value.Goals as goal
@@ -20,4 +18,3 @@ returns-in-Done c = search arguments-reading depth 20
 pub returns-in-Done-dlt_zero_terminated_string_intern : goal.returns-in-Done-dlt_zero_terminated_string_intern
 unfolding content
 returns-in-Done-dlt_zero_terminated_string_intern c = search arguments-reading depth 20
-

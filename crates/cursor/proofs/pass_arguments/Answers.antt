@@ -1,15 +1,11 @@
 -- `cursor::pass_arguments` meets its contract. The invariant: the whole is what is left of it at the loop's position.
-use Prim.Native.Nat.{◌≤◌, ◌-◌}
 use native.Mathlib.Omega.{arith}
 use native.Mathlib.Nat.{sub-zero}
-use mathlib.Core.Path.{◌≡◌, sym, ◌∙◌}
-use Rattle.wire.specs.Parser.{times}
+use mathlib.Core.Path.{sym, ◌∙◌}
 use Rattle.wire.proofs.Step.{told, times_next, times_need, times_hickup, times_none}
-use Rattle.arguments.specs.Argument.{argument}
 use Rattle.skim.specs.Skim.{skim_ans}
 use Rattle.skim.proofs.Same.{was_done, was_need, was_hickup}
 use Rattle.cursor.specs.Cursor.{arguments}
-use borrow.Author.Rules.{rules}
 use Rattle.cursor.proofs.pass_arguments.Goals as goal
 
 pub loop-i-init : goal.loop-i-init
@@ -33,4 +29,3 @@ loop-i-preserved c =
 
 pub returns : goal.returns
 returns c = sym (c.loop-i.invariant.1 ∙ times_none _ _ _ _ c.loop-i.i c.loop-i-test.false)
-

@@ -11,4 +11,3 @@ invariant-loop-i l = (l.i ≤ l.count) × (arguments l.big l.count l.s l.at ≡ 
 
 abbrev pub decreases-loop-i : goal.decreases-loop-i
 decreases-loop-i l = l.count - l.i
-

@@ -1,14 +1,7 @@
 -- `cursor::raw_of` meets its contract: a value that is none of raw is one of the others.
-use Rattle.std.proofs.Common.{arith}
-use Prim.Native.Nat.{ℕ}
 use mathlib.Core.Path.{◌≡◌, refl}
-use mathlib.Core.List.{List, [], ◌∷◌}
-use denote.Enum.Declared.{tag_of}
-use types.Run.{OneOf, miss}
-use borrow.Author.Rules.{rules}
 use Rattle.headertype.specs.declared.OptRange.{OptRange}
 use Rattle.dlt.specs.declared.Value.{Value}
-use Rattle.dlt.specs.contracts.Value as value
 use Rattle.cursor.specs.Raw.{raw_of_lem}
 use Rattle.wire.specs.declared.Range.{Range}
 use Rattle.cursor.proofs.raw_of.Goals as goal
@@ -39,4 +32,3 @@ returns-in-Raw c = rw c.in-Raw.is
 
 pub returns-in_default : goal.returns-in_default
 returns-in_default c = others c.args.v c.in_default.not-Raw
-

@@ -1,6 +1,4 @@
 -- `dlt::float_kind` meets its contract: `search` goes through the rule as the code does.
-use Rattle.std.proofs.Common.{arith}
-use borrow.Author.Rules.{rules}
 use Rattle.dlt.proofs.Reading.{dlt-reading}
 use Rattle.dlt.specs.TypeInfoWord.{float_of}
 use Rattle.dlt.proofs.float_kind.Goals as goal
@@ -12,4 +10,3 @@ returns-in-Present c = search dlt-reading depth 20
 pub returns-in-Absent : goal.returns-in-Absent
 unfolding float_of
 returns-in-Absent c = search dlt-reading depth 20
-

@@ -1,7 +1,5 @@
 -- `dlt::kind_of` meets its contract: a row for each key.
-use Rattle.std.proofs.Common.{arith}
 use Rattle.dlt.specs.TypeInfoWord.{kind_by}
-use borrow.Author.Tests.{ne_eqb}
 use borrow.Author.Rules.{rules}
 use Rattle.dlt.proofs.kind_of.Goals as goal
 
@@ -32,4 +30,3 @@ returns-in-64 c = rw c.in-64.is
 pub returns-in_default : goal.returns-in_default
 unfolding kind_by
 returns-in_default c = search rules
-

@@ -1,6 +1,4 @@
 -- `dlt::signed_kind` meets its contract: `search` goes through the rule as the code does.
-use Rattle.std.proofs.Common.{arith}
-use borrow.Author.Rules.{rules}
 use Rattle.dlt.proofs.Reading.{dlt-reading}
 use Rattle.dlt.specs.TypeInfoWord.{signed_of}
 use Rattle.dlt.proofs.signed_kind.Goals as goal
@@ -20,4 +18,3 @@ returns-in-Present-type_len c = search dlt-reading depth 20
 pub returns-in-Absent-type_len : goal.returns-in-Absent-type_len
 unfolding signed_of
 returns-in-Absent-type_len c = search dlt-reading depth 20
-

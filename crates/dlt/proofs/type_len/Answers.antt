@@ -1,7 +1,6 @@
 -- `dlt::type_len` meets its contract: a row for each key.
-use Rattle.std.proofs.Common.{rules, arith}
+use Rattle.std.proofs.Common.{rules}
 use Rattle.dlt.specs.TypeInfoWord.{type_length_of}
-use borrow.Author.Tests.{ne_eqb}
 use Rattle.dlt.proofs.type_len.Goals as goal
 
 pub returns-in-1 : goal.returns-in-1
@@ -27,4 +26,3 @@ returns-in-5 c = rw c.in-5.is
 pub returns-in_default : goal.returns-in_default
 unfolding type_length_of
 returns-in_default c = search rules
-

@@ -1,6 +1,4 @@
 -- `dlt::unsigned_kind` meets its contract: `search` goes through the rule as the code does.
-use Rattle.std.proofs.Common.{arith}
-use borrow.Author.Rules.{rules}
 use Rattle.dlt.proofs.Reading.{dlt-reading}
 use Rattle.dlt.specs.TypeInfoWord.{unsigned_of}
 use Rattle.dlt.proofs.unsigned_kind.Goals as goal
@@ -20,4 +18,3 @@ returns-in-Present-type_len c = search dlt-reading depth 20
 pub returns-in-Absent-type_len : goal.returns-in-Absent-type_len
 unfolding unsigned_of
 returns-in-Absent-type_len c = search dlt-reading depth 20
-

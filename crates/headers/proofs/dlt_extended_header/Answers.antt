@@ -1,6 +1,4 @@
 -- `headers::dlt_extended_header` meets its contract: `search` goes through the rule as the code does.
-use Rattle.std.proofs.Common.{arith}
-use borrow.Author.Rules.{rules}
 use Rattle.headers.proofs.Reading.{headers-reading}
 use Rattle.headers.specs.Extended.{extended}
 use Rattle.headers.proofs.dlt_extended_header.Goals as goal
@@ -16,4 +14,3 @@ returns-in-Need-parse_u8 c = search headers-reading depth 20
 pub returns : goal.returns
 unfolding extended
 returns c = search headers-reading depth 20
-

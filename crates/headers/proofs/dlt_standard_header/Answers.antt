@@ -1,6 +1,4 @@
 -- `headers::dlt_standard_header` meets its contract: `search` goes through the rule as the code does.
-use Rattle.std.proofs.Common.{arith}
-use borrow.Author.Rules.{rules}
 use Rattle.headers.proofs.Reading.{headers-reading}
 use Rattle.headers.specs.Standard.{standard}
 use Rattle.headers.proofs.dlt_standard_header.Goals as goal
@@ -20,4 +18,3 @@ returns-in-Need-parse_u16 c = search headers-reading depth 20
 pub returns : goal.returns
 unfolding standard
 returns c = search headers-reading depth 20
-

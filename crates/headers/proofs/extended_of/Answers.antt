@@ -1,10 +1,7 @@
 -- `headers::extended_of` meets its contract: the record, with what the call gave.
-use Rattle.std.proofs.Common.{arith}
 use Rattle.headers.specs.Extended.{extended_of_lem}
-use borrow.Author.Rules.{rules}
 use Rattle.headers.proofs.extended_of.Goals as goal
 
 pub returns : goal.returns
 unfolding extended_of_lem
 returns c = rw c.try_from-message_type.ensures
-

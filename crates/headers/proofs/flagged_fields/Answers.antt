@@ -1,6 +1,4 @@
 -- `headers::flagged_fields` meets its contract: `search` goes through the rule as the code does.
-use Rattle.std.proofs.Common.{arith}
-use borrow.Author.Rules.{rules}
 use Rattle.headers.proofs.Reading.{headers-reading}
 use Rattle.headers.specs.Standard.{flagged}
 use Rattle.headers.proofs.flagged_fields.Goals as goal
@@ -24,4 +22,3 @@ returns-then-all-length c = search headers-reading depth 20
 pub returns-else-all-length : goal.returns-else-all-length
 unfolding flagged
 returns-else-all-length c = search headers-reading depth 20
-

@@ -1,10 +1,7 @@
 -- `headers::header_of` meets its contract: the record, with what the calls gave.
-use Rattle.std.proofs.Common.{arith}
 use Rattle.headers.specs.Standard.{header_of_lem}
-use borrow.Author.Rules.{rules}
 use Rattle.headers.proofs.header_of.Goals as goal
 
 pub returns : goal.returns
 unfolding header_of_lem
 returns c = rw (c.calculate_all_headers_length-all.ensures, c.endianness_of-endianness.ensures)
-

@@ -1,6 +1,4 @@
 -- `headers::maybe_parse_u32` meets its contract: `search` goes through the rule as the code does.
-use Rattle.std.proofs.Common.{arith}
-use borrow.Author.Rules.{rules}
 use Rattle.headers.proofs.Reading.{headers-reading}
 use Rattle.headers.specs.Standard.{maybe_number_of}
 use Rattle.headers.proofs.maybe_parse_u32.Goals as goal
@@ -16,4 +14,3 @@ returns-in-Need c = search headers-reading depth 20
 pub returns-else-present : goal.returns-else-present
 unfolding maybe_number_of
 returns-else-present c = search headers-reading depth 20
-

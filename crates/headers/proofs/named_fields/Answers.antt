@@ -1,6 +1,4 @@
 -- `headers::named_fields` meets its contract: `search` goes through the rule as the code does.
-use Rattle.std.proofs.Common.{arith}
-use borrow.Author.Rules.{rules}
 use Rattle.headers.proofs.Reading.{headers-reading}
 use Rattle.headers.specs.Extended.{named}
 use Rattle.headers.proofs.named_fields.Goals as goal
@@ -16,4 +14,3 @@ returns-in-Need-identifier c = search headers-reading depth 20
 pub returns : goal.returns
 unfolding named
 returns c = search headers-reading depth 20
-

@@ -1,6 +1,4 @@
 -- `headers::parse_length` meets its contract: `search` goes through the rule as the code does.
-use Rattle.std.proofs.Common.{arith}
-use borrow.Author.Rules.{rules}
 use Rattle.headers.proofs.Reading.{headers-reading}
 use Rattle.headers.specs.Standard.{declared}
 use Rattle.headers.proofs.parse_length.Goals as goal
@@ -12,4 +10,3 @@ returns-in-Done c = search headers-reading depth 20
 pub returns-in-Need : goal.returns-in-Need
 unfolding declared
 returns-in-Need c = search headers-reading depth 20
-

@@ -6,4 +6,3 @@ use Rattle.headertype.proofs.calculate_all_headers_length.Goals as goal
 pub returns : goal.returns
 unfolding all_headers
 returns c = search rules depth 20
-

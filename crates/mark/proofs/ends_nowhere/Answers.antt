@@ -1,11 +1,8 @@
 -- `mark::ends_nowhere` meets its contract. The loop's invariant: where none was there so far, the first place from `at` on is the first from `at + j` on.
-use Prim.Native.Nat.{◌+◌, ◌-◌, ◌≤◌}
 use native.Mathlib.Omega.{arith}
 use native.Mathlib.Nat.{add-zero}
-use mathlib.Core.Path.{◌≡◌, refl, sym, ◌∙◌, ap}
-use mathlib.Core.Bool.{true}
-use borrow.Author.Rules.{rules}
-use Rattle.mark.specs.First.{pattern, find}
+use mathlib.Core.Path.{◌≡◌, refl, sym, ◌∙◌}
+use Rattle.mark.specs.First.{pattern}
 use Rattle.mark.proofs.Blocks.{none_next, ends_not}
 use Rattle.mark.proofs.ends_nowhere.Goals as goal
 
@@ -23,4 +20,3 @@ returns c =
     let l = c.loop-j in
     let q : c.args.n ≡ l.j = omega arith in
     rw q (l.invariant.1 e)
-

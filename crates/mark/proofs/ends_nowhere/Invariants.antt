@@ -10,4 +10,3 @@ invariant-loop-j l = (l.j ≤ l.n) × (l.none ≡ true → find pattern l.s l.at
 
 abbrev pub decreases-loop-j : goal.decreases-loop-j
 decreases-loop-j l = l.n - l.j
-

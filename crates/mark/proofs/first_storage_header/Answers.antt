@@ -1,10 +1,9 @@
 -- `mark::first_storage_header` meets its contract: by the four bytes at the first place.
 use native.Mathlib.Omega.{arith}
-use mathlib.Core.Path.{◌≡◌, sym, ◌∙◌}
+use mathlib.Core.Path.{sym, ◌∙◌}
 use Rattle.mark.specs.First.{pattern}
 use Rattle.mark.proofs.Laws.{short}
 use Rattle.mark.proofs.Blocks.{mark_hit, mark_miss}
-use borrow.Author.Rules.{rules}
 use Rattle.mark.proofs.first_storage_header.Goals as goal
 
 pub returns-then-s-lt4 : goal.returns-then-s-lt4
@@ -18,4 +17,3 @@ returns-then-i-s c = sym (mark_miss pattern _ _ (omega arith) (omega arith) (sym
 
 pub returns-else-i-s : goal.returns-else-i-s
 returns-else-i-s c = sym (mark_miss pattern _ _ (omega arith) (omega arith) (sym c.same_number.ensures ∙ c.if-same_number.false) ∙ c.next_place-i.ensures.1 (omega arith))
-

@@ -1,13 +1,5 @@
 -- `mark::is_free` meets its contract: by what either test tells.
-use Prim.Native.Nat.{◌+◌, ◌-◌, ◌≤◌}
-use native.Mathlib.Omega.{arith}
-use mathlib.Core.Path.{◌≡◌, refl, sym, ◌∙◌, ap}
-use mathlib.Core.Bool.{true}
-use lib.ListN.{length}
-use Rattle.mark.specs.First.{pattern, find}
-use borrow.Author.Rules.{rules}
 use Rattle.mark.proofs.is_free.Goals as goal
 
 pub returns-then-ends_nowhere : goal.returns-then-ends_nowhere
 returns-then-ends_nowhere c = λ e. c.ends_nowhere.ensures c.if-ends_nowhere.true
-

@@ -1,10 +1,9 @@
 -- `mark::next_place` meets its contract: a place that was found is below the length.
 use native.Mathlib.Omega.{arith}
-use mathlib.Core.Path.{◌≡◌, sym, ◌∙◌}
+use mathlib.Core.Path.{◌≡◌}
 use Rattle.mark.specs.First.{pattern, find}
 use Rattle.mark.specs.declared.Found.{Found}
 use Rattle.mark.proofs.Laws.{found_within}
-use borrow.Author.Rules.{rules}
 use Rattle.mark.proofs.next_place.Goals as goal
 
 pub returns-in-At : goal.returns-in-At
@@ -18,4 +17,3 @@ returns-in-Nothing c =
     let a = c.args in
     let h : find pattern a.s.now a.at ≡ Found.Nothing = cc in
     (λ l. absurd (omega arith), λ l. h)
-

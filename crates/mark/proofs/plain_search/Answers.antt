@@ -1,12 +1,9 @@
 -- `mark::plain_search` meets its contract. The outer loop's invariant: the first place from `at` on is the first from `i` on.
-use Prim.Native.Nat.{ℕ, ◌+◌, ◌-◌, ◌≤◌, ◌<◌}
 use native.Mathlib.Omega.{arith}
 use native.Mathlib.Numerals.{add-one}
-use mathlib.Core.Path.{◌≡◌, refl, sym, ◌∙◌}
+use mathlib.Core.Path.{refl, sym, ◌∙◌}
 use borrow.Author.Count.{below_more}
-use borrow.Author.Rules.{rules}
-use lib.ListN.{length, get_or}
-use Rattle.mark.specs.First.{pattern, find}
+use Rattle.mark.specs.First.{pattern}
 use Rattle.mark.proofs.Laws.{stands_at, differs_at, hit, miss, short}
 use Rattle.mark.proofs.plain_search.Goals as goal
 
@@ -57,4 +54,3 @@ returns-then-j-eq4 c =
     (c.places.invariant.1
     ∙ hit pattern s i (omega arith) (omega arith)
     (stands_at pattern s i (λ k q. below_more _ _ c.loop-j.invariant.1 c.loop-j-test.true k (omega arith))))
-

@@ -16,4 +16,3 @@ invariant-places l = (l.last + 4 ≡ length l.s) × (find pattern l.s l.at ≡ f
 
 abbrev pub decreases-places : goal.decreases-places
 decreases-places l = length l.s - l.i
-

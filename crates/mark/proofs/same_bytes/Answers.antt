@@ -1,5 +1,4 @@
 -- `mark::same_bytes` meets its contract: by its tests.
-use borrow.Author.Rules.{rules}
 use borrow.Author.Tests.{eq-eqb, ne_eqb}
 use Rattle.mark.specs.First.{stands_at_of}
 use Rattle.mark.proofs.Blocks.{picked}
@@ -20,4 +19,3 @@ returns-else-b c = rw (eq-eqb _ 0x44 c.if-a.true, ne_eqb _ 0x4C c.if-b.false)
 pub returns-else-a : goal.returns-else-a
 unfolding stands_at_of
 returns-else-a c = rw (ne_eqb _ 0x44 c.if-a.false)
-

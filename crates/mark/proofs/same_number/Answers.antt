@@ -1,7 +1,6 @@
 -- `mark::same_number` meets its contract: by the numbers that the four bytes and the pattern make.
 use native.Mathlib.Omega.{arith}
-use mathlib.Core.Path.{◌≡◌, sym, ◌∙◌}
-use borrow.Author.Rules.{rules}
+use mathlib.Core.Path.{sym, ◌∙◌}
 use Rattle.mark.proofs.Blocks.{joined_hit, joined_miss}
 use Rattle.mark.proofs.same_number.Goals as goal
 
@@ -18,4 +17,3 @@ pub returns : goal.returns
 returns c =
     let a = c.args in
     sym (joined_miss a.a a.b a.c a.d 0x44 0x4C 0x54 0x01 (λ e. c.if-here-wanted.false (c.joined-here.ensures ∙ e ∙ sym c.joined-wanted.ensures)))
-

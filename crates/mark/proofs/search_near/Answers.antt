@@ -6,7 +6,6 @@ use lib.ListN.{take, length-take}
 use Rattle.mark.specs.First.{pattern, find}
 use Rattle.mark.specs.declared.Found.{Found}
 use Rattle.mark.proofs.Blocks.{part_found, part_none}
-use borrow.Author.Rules.{rules}
 use Rattle.mark.proofs.search_near.Goals as goal
 
 pub slice_bounds-part-end : goal.slice_bounds-part-end
@@ -24,4 +23,3 @@ returns-in-Nothing c =
     let h : find pattern (take (a.at + 19) a.s.now) a.at ≡ Found.Nothing = cc in
     let q : a.at + 19 - 3 ≡ a.at + 16 = omega arith in
     c.search_far.ensures ∙ sym (rw q at (part_none pattern a.s.now (a.at + 19) a.at (omega arith) (omega arith) (omega arith) h))
-

@@ -1,12 +1,5 @@
 -- `mark::skip_blocks` meets its contract. The loop's invariant: the first place from `at` on is the first from `place` on.
-use Prim.Native.Nat.{◌+◌, ◌-◌, ◌≤◌}
-use native.Mathlib.Omega.{arith}
-use mathlib.Core.Path.{◌≡◌, refl, ◌∙◌}
-use mathlib.Core.Bool.{true}
-use lib.ListN.{length}
-use borrow.Author.Rules.{rules}
-use Rattle.mark.specs.First.{pattern, find}
-use Rattle.mark.proofs.Blocks.{not_not}
+use mathlib.Core.Path.{refl, ◌∙◌}
 use Rattle.mark.proofs.skip_blocks.Goals as goal
 
 pub loop-at-init : goal.loop-at-init
@@ -23,4 +16,3 @@ returns-after-loop-at c = c.loop-at.invariant
 
 pub returns-then-end-place : goal.returns-then-end-place
 returns-then-end-place c = c.loop-at.invariant
-

@@ -10,4 +10,3 @@ invariant-loop-at l = find pattern l.s l.at ≡ find pattern l.s l.place
 
 abbrev pub decreases-loop-at : goal.decreases-loop-at
 decreases-loop-at l = length l.s - l.place
-

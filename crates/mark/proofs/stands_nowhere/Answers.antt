@@ -1,11 +1,8 @@
 -- `mark::stands_nowhere` meets its contract. The loop's invariant: where none was there so far, the first place from `at` on is the first from `at + k` on.
-use Prim.Native.Nat.{◌+◌, ◌-◌, ◌≤◌}
 use native.Mathlib.Omega.{arith}
 use native.Mathlib.Nat.{add-zero}
-use mathlib.Core.Path.{◌≡◌, refl, sym, ◌∙◌, ap}
-use mathlib.Core.Bool.{true}
-use borrow.Author.Rules.{rules}
-use Rattle.mark.specs.First.{pattern, find}
+use mathlib.Core.Path.{◌≡◌, refl, sym, ◌∙◌}
+use Rattle.mark.specs.First.{pattern}
 use Rattle.mark.proofs.Blocks.{none_next}
 use Rattle.mark.proofs.stands_nowhere.Goals as goal
 
@@ -23,4 +20,3 @@ returns c =
     let l = c.loop-k in
     let q : c.args.n ≡ l.k = omega arith in
     rw q (l.invariant.1 e)
-

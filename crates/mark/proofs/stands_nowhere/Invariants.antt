@@ -10,4 +10,3 @@ invariant-loop-k l = (l.k ≤ l.n) × (l.none ≡ true → find pattern l.s l.at
 
 abbrev pub decreases-loop-k : goal.decreases-loop-k
 decreases-loop-k l = l.n - l.k
-

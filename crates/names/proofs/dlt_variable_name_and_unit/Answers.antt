@@ -1,6 +1,4 @@
 -- `names::dlt_variable_name_and_unit` meets its contract: `search` goes through the rule as the code does.
-use Rattle.std.proofs.Common.{arith}
-use borrow.Author.Rules.{rules}
 use Rattle.names.proofs.Reading.{names-reading}
 use Rattle.names.specs.Names.{maybe_names}
 use Rattle.names.proofs.dlt_variable_name_and_unit.Goals as goal
@@ -12,4 +10,3 @@ returns-then-has_variable_info c = search names-reading depth 20
 pub returns-else-has_variable_info : goal.returns-else-has_variable_info
 unfolding maybe_names
 returns-else-has_variable_info c = search names-reading depth 20
-

@@ -1,6 +1,4 @@
 -- `names::maybe_variable_name` meets its contract: `search` goes through the rule as the code does.
-use Rattle.std.proofs.Common.{arith}
-use borrow.Author.Rules.{rules}
 use Rattle.names.proofs.Reading.{names-reading}
 use Rattle.names.specs.Names.{maybe_name}
 use Rattle.names.proofs.maybe_variable_name.Goals as goal
@@ -16,4 +14,3 @@ returns-in-Need c = search names-reading depth 20
 pub returns-else-has_variable_info : goal.returns-else-has_variable_info
 unfolding maybe_name
 returns-else-has_variable_info c = search names-reading depth 20
-

@@ -1,6 +1,4 @@
 -- `names::name_and_unit` meets its contract: `search` goes through the rule as the code does.
-use Rattle.std.proofs.Common.{arith}
-use borrow.Author.Rules.{rules}
 use Rattle.names.proofs.Reading.{names-reading}
 use Rattle.names.specs.Names.{name_and_unit_of}
 use Rattle.names.proofs.name_and_unit.Goals as goal
@@ -16,4 +14,3 @@ returns-in-Need-parse_u16 c = search names-reading depth 20
 pub returns : goal.returns
 unfolding name_and_unit_of
 returns c = search names-reading depth 20
-

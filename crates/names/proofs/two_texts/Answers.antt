@@ -1,6 +1,4 @@
 -- `names::two_texts` meets its contract: `search` goes through the rule as the code does.
-use Rattle.std.proofs.Common.{arith}
-use borrow.Author.Rules.{rules}
 use Rattle.names.proofs.Reading.{names-reading}
 use Rattle.names.specs.Names.{texts}
 use Rattle.names.proofs.two_texts.Goals as goal
@@ -16,4 +14,3 @@ returns-in-Need-dlt_zero_terminated_string_intern c = search names-reading depth
 pub returns : goal.returns
 unfolding texts
 returns c = search names-reading depth 20
-

@@ -1,6 +1,5 @@
 use mathlib.Core.Path.{refl}
 use lib.Ieee.{binary32}
-use borrow.Author.Rules.{rules}
 use Rattle.reals.specs.Real.{pattern32}
 use Rattle.reals.specs.declared.Real32.{Real32}
 use Rattle.reals.proofs.Patterns.{like_itself, nan_written, number_written}
@@ -14,4 +13,3 @@ float_to_bits-result c = like_itself _ c.if-x.false
 
 pub returns-else-x : goal.returns-else-x
 returns-else-x c = number_written binary32 pattern32 Real32.Number (λ x. refl) _ _ c.in-Number.is
-

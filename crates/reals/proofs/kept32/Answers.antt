@@ -10,4 +10,3 @@ float_from_bits-result c = rw (is_number binary32 _ c.if-bits-gt2139095040.false
 
 pub returns : goal.returns
 returns c = rw (is_number binary32 _ c.if-bits-gt2139095040.false)
-

@@ -10,4 +10,3 @@ float_from_bits-result c = rw (is_number binary64 _ c.if-bits-gt9218868437227405
 
 pub returns : goal.returns
 returns c = rw (is_number binary64 _ c.if-bits-gt9218868437227405312.false)
-

@@ -1,5 +1,4 @@
 -- `reals::parse_f64` meets its contract: `search` goes through the rule as the code does.
-use borrow.Author.Rules.{rules}
 use Rattle.reals.proofs.Reading.{reals-reading}
 use Rattle.wire.specs.Number.{numeric}
 use Rattle.reals.specs.Real.{float64}
@@ -12,4 +11,3 @@ returns-in-Done c = search reals-reading depth 20
 pub returns-in-Need : goal.returns-in-Need
 unfolding float64 numeric
 returns-in-Need c = search reals-reading depth 20
-

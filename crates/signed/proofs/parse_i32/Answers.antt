@@ -1,5 +1,4 @@
 -- `signed::parse_i32` meets its contract: `search` goes through the rule as the code does.
-use borrow.Author.Rules.{rules}
 use Rattle.signed.proofs.Reading.{signed-reading}
 use Rattle.wire.specs.Number.{numeric}
 use Rattle.signed.specs.Twos.{signed}
@@ -12,4 +11,3 @@ returns-in-Done c = search signed-reading depth 20
 pub returns-in-Need : goal.returns-in-Need
 unfolding signed numeric
 returns-in-Need c = search signed-reading depth 20
-

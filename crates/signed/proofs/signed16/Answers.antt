@@ -1,7 +1,6 @@
 use native.Mathlib.Omega.{arith}
 use mir.Syntax.{w16}
 use Rattle.signed.proofs.Complement.{lower, upper_fits, upper}
-use borrow.Author.Rules.{rules}
 use Rattle.signed.proofs.signed16.Goals as goal
 
 pub returns-then-b-lt32768 : goal.returns-then-b-lt32768
@@ -12,4 +11,3 @@ overflow_sub-result-2 c = upper_fits w16 c.args.b (omega arith) (omega arith)
 
 pub returns : goal.returns
 returns c = upper w16 c.args.b (omega arith) (omega arith)
-

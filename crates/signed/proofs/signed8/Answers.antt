@@ -1,7 +1,6 @@
 use native.Mathlib.Omega.{arith}
 use mir.Syntax.{w8}
 use Rattle.signed.proofs.Complement.{lower, upper_fits, upper}
-use borrow.Author.Rules.{rules}
 use Rattle.signed.proofs.signed8.Goals as goal
 
 pub returns-then-b-lt128 : goal.returns-then-b-lt128
@@ -12,4 +11,3 @@ overflow_sub-result-2 c = upper_fits w8 c.args.b (omega arith) (omega arith)
 
 pub returns : goal.returns
 returns c = upper w8 c.args.b (omega arith) (omega arith)
-

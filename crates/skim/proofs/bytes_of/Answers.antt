@@ -1,7 +1,6 @@
 -- `skim::bytes_of` meets its contract: a row for each key.
-use Rattle.std.proofs.Common.{rules, arith}
+use Rattle.std.proofs.Common.{rules}
 use Rattle.skim.specs.Skim.{bytes_of}
-use borrow.Author.Tests.{ne_eqb}
 use Rattle.skim.proofs.bytes_of.Goals as goal
 
 pub returns-in-1 : goal.returns-in-1
@@ -27,4 +26,3 @@ returns-in-5 c = rw c.in-5.is
 pub returns-in_default : goal.returns-in_default
 unfolding bytes_of
 returns-in_default c = search rules
-

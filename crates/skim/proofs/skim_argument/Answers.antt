@@ -1,6 +1,4 @@
 -- `skim::skim_argument` meets its contract: `search` goes through the rule as the code does.
-use Rattle.std.proofs.Common.{arith}
-use borrow.Author.Rules.{rules}
 use Rattle.skim.proofs.Reading.{skim-reading}
 use Rattle.skim.proofs.skim_argument.Goals as goal
 
@@ -9,4 +7,3 @@ returns-in-Done c = search skim-reading depth 20
 
 pub returns-in-Need : goal.returns-in-Need
 returns-in-Need c = search skim-reading depth 20
-

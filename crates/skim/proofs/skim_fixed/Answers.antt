@@ -1,6 +1,4 @@
 -- `skim::skim_fixed` meets its contract: `search` goes through the rule as the code does.
-use Rattle.std.proofs.Common.{arith}
-use borrow.Author.Rules.{rules}
 use Rattle.skim.proofs.Reading.{skim-reading}
 use Rattle.skim.specs.Skim.{skim_fixed_of}
 use Rattle.skim.proofs.skim_fixed.Goals as goal
@@ -12,4 +10,3 @@ returns-in-4 c = search skim-reading depth 20
 pub returns-in_default : goal.returns-in_default
 unfolding skim_fixed_of
 returns-in_default c = search (skim-reading, c.in_default.in_default-own.rest.1) depth 20
-

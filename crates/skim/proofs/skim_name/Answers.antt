@@ -1,6 +1,4 @@
 -- `skim::skim_name` meets its contract: `search` goes through the rule as the code does.
-use Rattle.std.proofs.Common.{arith}
-use borrow.Author.Rules.{rules}
 use Rattle.skim.proofs.Reading.{skim-reading}
 use Rattle.skim.specs.Skim.{skim_name_of}
 use Rattle.skim.proofs.skim_name.Goals as goal
@@ -16,4 +14,3 @@ returns-in-Need c = search skim-reading depth 20
 pub returns-else-info : goal.returns-else-info
 unfolding skim_name_of
 returns-else-info c = search skim-reading depth 20
-

@@ -1,6 +1,4 @@
 -- `skim::skim_names` meets its contract: `search` goes through the rule as the code does.
-use Rattle.std.proofs.Common.{arith}
-use borrow.Author.Rules.{rules}
 use Rattle.skim.proofs.Reading.{skim-reading}
 use Rattle.skim.specs.Skim.{skim_names_of}
 use Rattle.skim.proofs.skim_names.Goals as goal
@@ -20,4 +18,3 @@ returns-in-Done-parse_u16 c = search skim-reading depth 20
 pub returns-else-info : goal.returns-else-info
 unfolding skim_names_of
 returns-else-info c = search skim-reading depth 20
-

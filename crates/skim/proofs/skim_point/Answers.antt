@@ -1,6 +1,4 @@
 -- `skim::skim_point` meets its contract: `search` goes through the rule as the code does.
-use Rattle.std.proofs.Common.{arith}
-use borrow.Author.Rules.{rules}
 use Rattle.skim.proofs.Reading.{skim-reading}
 use Rattle.skim.specs.Skim.{skim_point_of}
 use Rattle.skim.proofs.skim_point.Goals as goal
@@ -16,4 +14,3 @@ returns-in-Need c = search skim-reading depth 20
 pub returns-in-Hickup : goal.returns-in-Hickup
 unfolding skim_point_of
 returns-in-Hickup c = search skim-reading depth 20
-

@@ -1,6 +1,4 @@
 -- `skim::skim_run` meets its contract: `search` goes through the rule as the code does.
-use Rattle.std.proofs.Common.{arith}
-use borrow.Author.Rules.{rules}
 use Rattle.skim.proofs.Reading.{skim-reading}
 use Rattle.skim.proofs.skim_run.Goals as goal
 
@@ -9,4 +7,3 @@ returns-then-n-rest c = search skim-reading depth 20
 
 pub returns-else-n-rest : goal.returns-else-n-rest
 returns-else-n-rest c = search skim-reading depth 20
-

@@ -1,6 +1,4 @@
 -- `skim::skim_scaled` meets its contract: `search` goes through the rule as the code does.
-use Rattle.std.proofs.Common.{arith}
-use borrow.Author.Rules.{rules}
 use Rattle.skim.proofs.Reading.{skim-reading}
 use Rattle.skim.specs.Skim.{skim_scaled_of}
 use Rattle.skim.proofs.skim_scaled.Goals as goal
@@ -24,4 +22,3 @@ returns-in-Need-skim_point c = search skim-reading depth 20
 pub returns-in-Hickup-skim_point : goal.returns-in-Hickup-skim_point
 unfolding skim_scaled_of
 returns-in-Hickup-skim_point c = search skim-reading depth 20
-

@@ -1,6 +1,4 @@
 -- `skim::skim_string` meets its contract: `search` goes through the rule as the code does.
-use Rattle.std.proofs.Common.{arith}
-use borrow.Author.Rules.{rules}
 use Rattle.skim.proofs.Reading.{skim-reading}
 use Rattle.skim.specs.Skim.{skim_string_of}
 use Rattle.skim.proofs.skim_string.Goals as goal
@@ -20,4 +18,3 @@ returns-in-Need-skim_name c = search skim-reading depth 20
 pub returns-in-Hickup : goal.returns-in-Hickup
 unfolding skim_string_of
 returns-in-Hickup c = search skim-reading depth 20
-

@@ -1,6 +1,4 @@
 -- `skim::skim_whole` meets its contract: `search` goes through the rule as the code does.
-use Rattle.std.proofs.Common.{arith}
-use borrow.Author.Rules.{rules}
 use Rattle.skim.proofs.Reading.{skim-reading}
 use Rattle.skim.specs.Skim.{skim_whole_of}
 use Rattle.skim.proofs.skim_whole.Goals as goal
@@ -12,4 +10,3 @@ returns-in-0 c = search skim-reading depth 20
 pub returns-in_default : goal.returns-in_default
 unfolding skim_whole_of
 returns-in_default c = search skim-reading depth 20
-

@@ -1,6 +1,4 @@
 -- `skim::skim_word` meets its contract: `search` goes through the rule as the code does.
-use Rattle.std.proofs.Common.{arith}
-use borrow.Author.Rules.{rules}
 use Rattle.skim.proofs.Reading.{skim-reading, word_none}
 use Rattle.skim.proofs.skim_word.Goals as goal
 
@@ -21,4 +19,3 @@ returns-in-64 c = search skim-reading depth 20
 
 pub returns-in_default : goal.returns-in_default
 returns-in_default c = let r = c.in_default.in_default-own.rest in word_none _ _ _ _ r.0.0.0.0.1 r.0.0.0.1 r.0.0.1 r.0.1 r.1
-

@@ -1,6 +1,4 @@
 -- `storage::dlt_consume_msg` meets its contract: `search` goes through the rule as the code does.
-use Rattle.std.proofs.Common.{arith}
-use borrow.Author.Rules.{rules}
 use Rattle.storage.proofs.Reading.{storage-reading}
 use Rattle.storage.proofs.dlt_consume_msg.Goals as goal
 
@@ -15,4 +13,3 @@ returns-in-Need c = search storage-reading depth 20
 
 pub returns-in-Hickup : goal.returns-in-Hickup
 returns-in-Hickup c = search storage-reading depth 20
-

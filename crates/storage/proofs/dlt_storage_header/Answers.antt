@@ -1,5 +1,4 @@
 -- `storage::dlt_storage_header` meets its contract: `search` goes through the rule as the code does.
-use Rattle.std.proofs.Common.{arith}
 use borrow.Author.Rules.{rules}
 use Rattle.storage.proofs.Reading.{storage-reading, place_from}
 use Rattle.storage.proofs.dlt_storage_header.Goals as goal
@@ -15,4 +14,3 @@ returns-in-At c = search storage-reading depth 20
 
 pub returns-in-Nothing : goal.returns-in-Nothing
 returns-in-Nothing c = search storage-reading depth 20
-

@@ -1,6 +1,4 @@
 -- `storage::owned_fields` meets its contract: `search` goes through the rule as the code does.
-use Rattle.std.proofs.Common.{arith}
-use borrow.Author.Rules.{rules}
 use Rattle.storage.proofs.Reading.{storage-reading}
 use Rattle.storage.specs.Storage.{owned, stored_of}
 use Rattle.storage.proofs.owned_fields.Goals as goal
@@ -12,4 +10,3 @@ returns-in-Need c = search storage-reading depth 20
 pub returns : goal.returns
 unfolding owned stored_of
 returns c = search storage-reading depth 20
-

@@ -1,6 +1,4 @@
 -- `storage::skip_storage_header` meets its contract: `search` goes through the rule as the code does.
-use Rattle.std.proofs.Common.{arith}
-use borrow.Author.Rules.{rules}
 use Rattle.storage.proofs.Reading.{storage-reading}
 use Rattle.storage.specs.Consume.{skip}
 use Rattle.storage.proofs.skip_storage_header.Goals as goal
@@ -28,4 +26,3 @@ returns-in-Done-take c = search storage-reading depth 20
 pub returns-in-Need-take : goal.returns-in-Need-take
 unfolding skip
 returns-in-Need-take c = search storage-reading depth 20
-

@@ -1,6 +1,4 @@
 -- `storage::stored_fields` meets its contract: `search` goes through the rule as the code does.
-use Rattle.std.proofs.Common.{arith}
-use borrow.Author.Rules.{rules}
 use Rattle.storage.proofs.Reading.{storage-reading}
 use Rattle.storage.specs.Storage.{stored}
 use Rattle.storage.proofs.stored_fields.Goals as goal
@@ -20,4 +18,3 @@ returns-in-Need-parse_u32-2 c = search storage-reading depth 20
 pub returns : goal.returns
 unfolding stored
 returns c = search storage-reading depth 20
-

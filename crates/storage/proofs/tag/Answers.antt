@@ -1,8 +1,6 @@
 -- `storage::tag` meets its contract: the loop's invariant is `Passed`: so many bytes of the tag were passed, and stand.
-use Prim.Native.Nat.{◌-◌, ◌≤◌}
 use native.Mathlib.Omega.{arith}
-use borrow.Author.Rules.{rules}
-use Rattle.storage.proofs.Tags.{Passed, passed_none, passed_short, passed_differs, passed_more, passed_all}
+use Rattle.storage.proofs.Tags.{passed_none, passed_short, passed_differs, passed_more, passed_all}
 use Rattle.storage.proofs.tag.Goals as goal
 
 pub loop-k-init : goal.loop-k-init
@@ -19,4 +17,3 @@ loop-k-preserved c = (omega arith, passed_more _ _ c.requires _ _ c.loop-k.k _ c
 
 pub returns : goal.returns
 returns c = passed_all _ _ c.requires _ _ c.loop-k.k _ c.left-rest.ensures c.loop-k.invariant.1 c.loop-k-test.false
-

@@ -8,4 +8,3 @@ invariant-loop-k l = (l.k ≤ l.rest) × Passed l.first l.size l.s l.at l.k
 
 abbrev pub decreases-loop-k : goal.decreases-loop-k
 decreases-loop-k l = l.size - l.k
-

@@ -1,6 +1,4 @@
 -- `storage::whole_message` meets its contract: `search` goes through the rule as the code does.
-use Rattle.std.proofs.Common.{arith}
-use borrow.Author.Rules.{rules}
 use Rattle.storage.proofs.Reading.{storage-reading}
 use Rattle.storage.specs.Consume.{whole}
 use Rattle.storage.proofs.whole_message.Goals as goal
@@ -20,4 +18,3 @@ returns-in-Done-take c = search storage-reading depth 20
 pub returns-in-Need-take : goal.returns-in-Need-take
 unfolding whole
 returns-in-Need-take c = search storage-reading depth 20
-

@@ -1,7 +1,5 @@
 -- `strings::before_zero` meets its contract: the loop's invariant is `Passed`: so many bytes were passed, and none is zero.
-use Prim.Native.Nat.{◌-◌}
-use Rattle.strings.proofs.Strings.{Passed, passed_none, passed_more, passed_found, passed_all}
-use borrow.Author.Rules.{rules}
+use Rattle.strings.proofs.Strings.{passed_none, passed_more, passed_found, passed_all}
 use Rattle.strings.proofs.before_zero.Goals as goal
 
 pub loop-k-init : goal.loop-k-init
@@ -15,4 +13,3 @@ loop-k-preserved c = passed_more _ _ _ _ c.loop-k-test.true c.if-s-at-eq0.false 
 
 pub returns : goal.returns
 returns c = passed_all _ _ _ _ c.loop-k-test.false c.loop-k.invariant
-

@@ -1,5 +1,4 @@
 -- `strings::content` meets its contract: `search` goes through the rule as the code does.
-use borrow.Author.Rules.{rules}
 use Rattle.strings.proofs.Strings.{letters_all, letters_end, content_is}
 use Rattle.strings.proofs.content.Goals as goal
 
@@ -11,4 +10,3 @@ returns-then-s-at-eq0 c = search letters_end depth 20
 
 pub returns : goal.returns
 returns c = search content_is depth 20
-

@@ -15,4 +15,3 @@ why_ended-ended-requires c = search (rules, no_longer)
 
 pub returns : goal.returns
 returns c = search texts depth 20
-

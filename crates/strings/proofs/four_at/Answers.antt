@@ -1,5 +1,4 @@
 -- `strings::four_at` meets its contract: `search` goes through the rule as the code does.
-use borrow.Author.Rules.{rules}
 use Rattle.strings.proofs.Utf8.{utf8}
 use Rattle.strings.proofs.four_at.Goals as goal
 
@@ -14,4 +13,3 @@ returns-then-lead-le244 c = search utf8 depth 20
 
 pub returns : goal.returns
 returns c = search utf8 depth 20
-

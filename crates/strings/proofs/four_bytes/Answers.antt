@@ -1,5 +1,4 @@
 -- `strings::four_bytes` meets its contract: `search` goes through the rule as the code does.
-use borrow.Author.Rules.{rules}
 use Rattle.strings.proofs.Utf8.{utf8}
 use Rattle.strings.proofs.four_bytes.Goals as goal
 
@@ -17,4 +16,3 @@ returns-else-third c = search utf8 depth 20
 
 pub returns-else-second : goal.returns-else-second
 returns-else-second c = search utf8 depth 20
-

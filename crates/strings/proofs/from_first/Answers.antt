@@ -23,4 +23,3 @@ returns-in-3 c = search (rules, spelled) depth 20
 
 pub returns-in_default : goal.returns-in_default
 returns-in_default c = search (rules, spelled) depth 20
-

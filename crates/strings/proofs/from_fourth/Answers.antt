@@ -8,4 +8,3 @@ returns-then-letter_at c = search (rules, spelled) depth 20
 
 pub returns-else-letter_at : goal.returns-else-letter_at
 returns-else-letter_at c = search (rules, spelled) depth 20
-

@@ -22,4 +22,3 @@ returns-in-2 c = search (rules, spelled) depth 20
 
 pub returns-in_default : goal.returns-in_default
 returns-in_default c = search (rules, spelled) depth 20
-

@@ -19,4 +19,3 @@ overflow_add-result c = let w = word_le 2 _ _ _ c.longer_at.ensures in omega ari
 
 pub returns : goal.returns
 returns c = search (rules, spelled) depth 20
-

@@ -8,4 +8,3 @@ returns-then-rest-ge4 c = search (rules, length_there) depth 20
 
 pub returns-else-rest-ge4 : goal.returns-else-rest-ge4
 returns-else-rest-ge4 c = search (rules, length_missing) depth 20
-

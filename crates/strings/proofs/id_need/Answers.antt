@@ -1,5 +1,4 @@
 -- `strings::id_need` meets its contract: each way through it is a law of `needed`.
-use borrow.Author.Rules.{rules}
 use Rattle.strings.proofs.Spelled.{needed}
 use Rattle.strings.proofs.id_need.Goals as goal
 
@@ -20,4 +19,3 @@ returns-else-s-at-eq0-3 c = search needed depth 20
 
 pub returns-in_default : goal.returns-in_default
 returns-in_default c = search needed depth 20
-

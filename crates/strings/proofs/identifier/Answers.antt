@@ -23,4 +23,3 @@ pub returns : goal.returns
 returns c =
     let few = length_is _ _ _ c.id_length-len.ensures (omega arith) in
     c.read_identifier-2.ensures ∙ id_done _ _ _ refl _ _ few c.why_ended-ended.ensures (omega arith)
-

@@ -1,8 +1,6 @@
 -- `strings::letters` meets its contract: the loop's invariant is `Letters` itself.
-use Prim.Native.Nat.{◌-◌, zero-le}
+use Prim.Native.Nat.{zero-le}
 use native.Mathlib.Nat.{not-suc-le-zero}
-use borrow.Author.Rules.{rules}
-use Rattle.strings.specs.Text.{Letters}
 use Rattle.strings.proofs.Strings.{letters_on}
 use Rattle.strings.proofs.letters.Goals as goal
 
@@ -11,4 +9,3 @@ loop-k-init c = (zero-le, λ i h. absurd (not-suc-le-zero h))
 
 pub loop-k-preserved : goal.loop-k-preserved
 loop-k-preserved c = search letters_on depth 20
-

@@ -8,4 +8,3 @@ invariant-loop-k l = Letters l.s l.at l.n l.k
 
 abbrev pub decreases-loop-k : goal.decreases-loop-k
 decreases-loop-k l = l.n - l.k
-

@@ -1,5 +1,4 @@
 -- `strings::sequence_at` meets its contract: `search` goes through the rule as the code does.
-use borrow.Author.Rules.{rules}
 use Rattle.strings.proofs.Utf8.{utf8}
 use Rattle.strings.proofs.sequence_at.Goals as goal
 
@@ -8,4 +7,3 @@ returns-then-s-at-le127 c = search utf8 depth 20
 
 pub returns : goal.returns
 returns c = search utf8 depth 20
-

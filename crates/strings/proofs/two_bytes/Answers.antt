@@ -1,5 +1,4 @@
 -- `strings::two_bytes` meets its contract: `search` goes through the rule as the code does.
-use borrow.Author.Rules.{rules}
 use Rattle.strings.proofs.Utf8.{utf8}
 use Rattle.strings.proofs.two_bytes.Goals as goal
 
@@ -11,4 +10,3 @@ returns-then-stands c = search utf8 depth 20
 
 pub returns-else-stands : goal.returns-else-stands
 returns-else-stands c = search utf8 depth 20
-

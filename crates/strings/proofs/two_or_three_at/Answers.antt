@@ -1,5 +1,4 @@
 -- `strings::two_or_three_at` meets its contract: `search` goes through the rule as the code does.
-use borrow.Author.Rules.{rules}
 use Rattle.strings.proofs.Utf8.{utf8}
 use Rattle.strings.proofs.two_or_three_at.Goals as goal
 
@@ -20,4 +19,3 @@ returns-then-lead-le237 c = search utf8 depth 20
 
 pub returns : goal.returns
 returns c = search utf8 depth 20
-

@@ -1,11 +1,6 @@
 -- `strings::valid_up_to` meets its contract: the loop's invariant is `Valid`: so many bytes were passed, all of them in well-formed sequences.
-use Prim.Native.Nat.{◌-◌, ◌≤◌}
-use mathlib.Core.Path.{◌≡◌}
 use native.Mathlib.Omega.{arith}
-use lib.ListN.{length}
-use borrow.Author.Rules.{rules}
-use Rattle.strings.specs.Utf8.{least}
-use Rattle.strings.proofs.Utf8.{Valid, valid_none, valid_more, valid_found, valid_all, word_le, least_le}
+use Rattle.strings.proofs.Utf8.{valid_none, valid_more, valid_found, valid_all, word_le, least_le}
 use Rattle.strings.proofs.valid_up_to.Goals as goal
 
 pub loop-k-init : goal.loop-k-init
@@ -38,4 +33,3 @@ pub returns : goal.returns
 returns c =
     let l = c.loop-k in
     valid_all _ _ _ l.k _ c.loop-k-test.false l.invariant.0 l.invariant.2
-

@@ -11,4 +11,3 @@ invariant-loop-k l = (l.end ≡ least l.n (length l.s - l.at)) × (l.end ≤ len
 
 abbrev pub decreases-loop-k : goal.decreases-loop-k
 decreases-loop-k l = l.end - l.k
-

@@ -1,5 +1,4 @@
 -- `strings::why_ended` meets its contract: each way through it is a law of `reasons`.
-use borrow.Author.Rules.{rules}
 use Rattle.strings.proofs.Reasons.{reasons}
 use Rattle.strings.proofs.why_ended.Goals as goal
 
@@ -11,4 +10,3 @@ returns-then-s-at-eq0 c = search reasons depth 20
 
 pub returns-else-s-at-eq0 : goal.returns-else-s-at-eq0
 returns-else-s-at-eq0 c = search reasons depth 20
-

@@ -1,6 +1,4 @@
 -- `values::dlt_fint` meets its contract: `search` goes through the rule as the code does.
-use Rattle.std.proofs.Common.{arith}
-use borrow.Author.Rules.{rules}
 use Rattle.values.proofs.Reading.{floats}
 use Rattle.values.proofs.dlt_fint.Goals as goal
 
@@ -15,4 +13,3 @@ returns-in-Done-parse_f64 c = search floats depth 20
 
 pub returns-in-Need-parse_f64 : goal.returns-in-Need-parse_f64
 returns-in-Need-parse_f64 c = search floats depth 20
-

@@ -1,6 +1,4 @@
 -- `values::dlt_sint` meets its contract: `search` goes through the rule as the code does.
-use Rattle.std.proofs.Common.{arith}
-use borrow.Author.Rules.{rules}
 use Rattle.values.proofs.Reading.{signs}
 use Rattle.values.proofs.dlt_sint.Goals as goal
 
@@ -30,4 +28,3 @@ returns-in-Need-parse_i64 c = search signs depth 20
 
 pub returns-in-BitLength128 : goal.returns-in-BitLength128
 returns-in-BitLength128 c = search signs depth 20
-

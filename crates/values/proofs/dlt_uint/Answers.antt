@@ -1,6 +1,4 @@
 -- `values::dlt_uint` meets its contract: `search` goes through the rule as the code does.
-use Rattle.std.proofs.Common.{arith}
-use borrow.Author.Rules.{rules}
 use Rattle.values.proofs.Reading.{uints}
 use Rattle.values.specs.Value.{uint, unsigned_of}
 use Rattle.wire.specs.Number.{numeric}
@@ -41,4 +39,3 @@ returns-in-Need-parse_u64 c = search uints depth 20
 pub returns-in-BitLength128 : goal.returns-in-BitLength128
 unfolding uint unsigned_of numeric
 returns-in-BitLength128 c = search uints depth 20
-

@@ -1,6 +1,4 @@
 -- `values::number_value` meets its contract: `search` goes through the rule as the code does.
-use Rattle.std.proofs.Common.{arith}
-use borrow.Author.Rules.{rules}
 use Rattle.values.proofs.Reading.{values-reading}
 use Rattle.values.specs.Value.{value}
 use Rattle.values.proofs.number_value.Goals as goal
@@ -16,4 +14,3 @@ returns-in-Signed c = search values-reading depth 20
 pub returns-in-Float : goal.returns-in-Float
 unfolding value
 returns-in-Float c = search values-reading depth 20
-

@@ -1,6 +1,4 @@
 -- `values::real32` meets its contract: `search` goes through the rule as the code does.
-use Rattle.std.proofs.Common.{arith}
-use borrow.Author.Rules.{rules}
 use Rattle.values.proofs.Reading.{floats}
 use Rattle.values.proofs.real32.Goals as goal
 
@@ -9,4 +7,3 @@ returns-in-Number c = search floats depth 20
 
 pub returns-in-NotANumber : goal.returns-in-NotANumber
 returns-in-NotANumber c = search floats depth 20
-

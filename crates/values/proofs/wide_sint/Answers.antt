@@ -1,6 +1,4 @@
 -- `values::wide_sint` meets its contract: `search` goes through the rule as the code does.
-use Rattle.std.proofs.Common.{arith}
-use borrow.Author.Rules.{rules}
 use Rattle.values.proofs.Reading.{signs}
 use Rattle.values.proofs.wide_sint.Goals as goal
 
@@ -9,4 +7,3 @@ returns-in-Done c = search signs depth 20
 
 pub returns-in-Need : goal.returns-in-Need
 returns-in-Need c = search signs depth 20
-

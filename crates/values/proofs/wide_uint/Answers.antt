@@ -1,6 +1,4 @@
 -- `values::wide_uint` meets its contract: `search` goes through the rule as the code does.
-use Rattle.std.proofs.Common.{arith}
-use borrow.Author.Rules.{rules}
 use Rattle.values.proofs.Reading.{uints}
 use Rattle.values.proofs.wide_uint.Goals as goal
 
@@ -9,4 +7,3 @@ returns-in-Done c = search uints depth 20
 
 pub returns-in-Need : goal.returns-in-Need
 returns-in-Need c = search uints depth 20
-

@@ -2,7 +2,6 @@
 use native.Mathlib.Omega.{arith}
 use mathlib.Core.Path.{refl}
 use mathlib.Core.Bool.{true}
-use borrow.Author.Rules.{rules}
 use Rattle.wire.proofs.Digits.{byte_is}
 use Rattle.wire.proofs.byte.Goals as goal
 
@@ -13,4 +12,3 @@ pub returns : goal.returns
 returns c =
     let a = c.args in
     byte_is true a.s.now a.at _ refl (omega (arith, c.type_inv.s a.at))
-

@@ -1,5 +1,4 @@
 -- `wire::parse_u128` meets its contract: `search` goes through the rule as the code does.
-use borrow.Author.Rules.{rules}
 use Rattle.wire.proofs.Digits.{leaves}
 use Rattle.wire.proofs.parse_u128.Goals as goal
 
@@ -11,4 +10,3 @@ returns-then-big c = search leaves depth 20
 
 pub returns-else-big : goal.returns-else-big
 returns-else-big c = search leaves depth 20
-

@@ -1,5 +1,4 @@
 -- `wire::parse_u8` meets its contract: `search` goes through the rule as the code does.
-use borrow.Author.Rules.{rules}
 use Rattle.wire.proofs.Digits.{leaves}
 use Rattle.wire.proofs.parse_u8.Goals as goal
 
@@ -8,4 +7,3 @@ returns-then-rest-lt1 c = search leaves depth 20
 
 pub returns : goal.returns
 returns c = search leaves depth 20
-

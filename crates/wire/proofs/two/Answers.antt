@@ -1,5 +1,4 @@
 -- `wire::two` meets its contract: its halves are numbers, and `joined` (proofs/Digits.antt) is the law of every width.
-use borrow.Author.Rules.{rules}
 use Rattle.wire.proofs.Digits.{halves}
 use Rattle.wire.proofs.two.Goals as goal
 
@@ -8,4 +7,3 @@ returns-then-big c = search halves depth 20
 
 pub returns-else-big : goal.returns-else-big
 returns-else-big c = search halves depth 20
-

@@ -1,6 +1,4 @@
 -- `cursor::Cursor::next` meets its contract: `search` goes through the rule as the code does.
-use Rattle.std.proofs.Common.{arith}
-use borrow.Author.Rules.{rules}
 use Rattle.arguments.proofs.Reading.{arguments-reading}
 use Rattle.cursor.specs.Cursor.{turn}
 use Rattle.cursor.proofs.Cursor.next.Goals as goal
@@ -20,4 +18,3 @@ returns-in-Done c = search arguments-reading depth 20
 pub returns-else-self-ge1 : goal.returns-else-self-ge1
 unfolding turn
 returns-else-self-ge1 c = search arguments-reading depth 20
-

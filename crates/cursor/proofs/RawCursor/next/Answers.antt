@@ -1,12 +1,10 @@
 -- `cursor::RawCursor::next` meets its contract. The invariant: the first raw value of all that were left is that of those that are left.
 use Prim.Native.Nat.{◌-◌}
 use native.Mathlib.Omega.{arith}
-use mathlib.Core.Path.{◌≡◌, refl, sym, ◌∙◌}
+use mathlib.Core.Path.{refl, sym, ◌∙◌}
 use Rattle.wire.proofs.Step.{told}
 use Rattle.arguments.specs.Argument.{argument_ans}
-use Rattle.cursor.specs.Raw.{first_raw}
 use Rattle.cursor.proofs.Raw.{raw_need, raw_hickup, raw_item, raw_over, raw_none}
-use borrow.Author.Rules.{rules}
 use Rattle.cursor.proofs.RawCursor.next.Goals as goal
 
 pub loop-left-init : goal.loop-left-init
@@ -34,4 +32,3 @@ loop-left-preserved c =
 
 pub returns : goal.returns
 returns c = sym (c.loop-left.invariant ∙ raw_none _ _ _ c.loop-left.left c.loop-left-test.false)
-

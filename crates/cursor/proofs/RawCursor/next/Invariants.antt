@@ -8,4 +8,3 @@ invariant-loop-left l = first_raw l.big l.initial.left l.s l.initial.at ≡ firs
 
 abbrev pub decreases-loop-left : goal.decreases-loop-left
 decreases-loop-left l = l.left
-

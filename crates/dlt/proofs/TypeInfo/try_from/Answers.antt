@@ -1,6 +1,4 @@
 -- `dlt::TypeInfo::try_from` meets its contract: `search` goes through the rule as the code does.
-use Rattle.std.proofs.Common.{arith}
-use borrow.Author.Rules.{rules}
 use Rattle.dlt.proofs.Reading.{dlt-reading}
 use Rattle.dlt.specs.TypeInfoWord.{type_info_of_lem}
 use Rattle.dlt.proofs.TypeInfo.try_from.Goals as goal
@@ -12,4 +10,3 @@ returns-in-Present c = rw c.coding_of-coding.ensures (search dlt-reading depth 2
 pub returns-in-Absent : goal.returns-in-Absent
 unfolding type_info_of_lem
 returns-in-Absent c = search dlt-reading depth 20
-

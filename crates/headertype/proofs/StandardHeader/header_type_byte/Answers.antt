@@ -6,4 +6,3 @@ use Rattle.headertype.proofs.StandardHeader.header_type_byte.Goals as goal
 pub returns : goal.returns
 unfolding header_type_byte_of
 returns c = search rules depth 20
-

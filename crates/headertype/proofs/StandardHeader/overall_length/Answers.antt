@@ -1,5 +1,4 @@
 -- `headertype::StandardHeader::overall_length` meets its contract: `search` goes through the rule as the code does.
-use borrow.Author.Rules.{rules}
 use Rattle.headertype.proofs.Reading.{header-reading}
 use Rattle.headertype.specs.HeaderType.{overall_length_of}
 use Rattle.headertype.proofs.StandardHeader.overall_length.Goals as goal
@@ -7,4 +6,3 @@ use Rattle.headertype.proofs.StandardHeader.overall_length.Goals as goal
 pub returns : goal.returns
 unfolding overall_length_of
 returns c = search header-reading depth 20
-
