@@ -1,10 +1,10 @@
 -- The lemmas of the payload's rules and answer enums, for `search` (wire's Reading.antt says how).
 use Prim.Native.Nat.{ℕ}
-use mathlib.Core.Path.{◌≡◌, refl, sym, ap, ◌∙◌}
+use mathlib.Core.Path.{◌≡◌, refl, ap}
 use mathlib.Core.Bool.{Bool, true, false}
 use mathlib.Core.List.{List}
 use Rattle.wire.specs.Answer.{Ans, Parser}
-use Rattle.wire.specs.Answer.Ans.{done, need, hickup, broken}
+use Rattle.wire.specs.Answer.Ans.{need, hickup, broken}
 use Rattle.wire.specs.Parser.{◌>>=◌}
 use Rattle.wire.specs.declared.Range.{Range}
 use Rattle.wire.proofs.Reading.{by_done, by_need, by_hickup, by_broken, reading}

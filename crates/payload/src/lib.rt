@@ -1,5 +1,6 @@
 // The payload: port of `dlt_payload` in parse.rs and of `PayloadContent` in dlt.rs of dlt-core 0.20.2 (Apache-2.0, NOTICE).
 #![tactic(auto)]
+
 ghost use Rattle.std.specs.Prelude.{◌≡◌};
 ghost use Rattle.payload.specs.Payload.{is_verbose_of, count_of, control_type_of, network_type_of, is_control_of, is_network_of, list_of, verbose, control, plain, payload, payload_ans};
 

@@ -1,6 +1,7 @@
 // Arguments from signal data, by a list of type info words: port of `construct_arguments` in parse.rs of dlt-core 0.20.2 (Apache-2.0,
 // NOTICE). The words are decoded one by one, as they are reached.
 #![tactic(auto)]
+
 ghost use Rattle.std.specs.Prelude.{◌≡◌};
 ghost use Rattle.dlt.specs.declared.TypeInfoKind.{TypeInfoKind};
 ghost use Rattle.values.specs.Value.{value};

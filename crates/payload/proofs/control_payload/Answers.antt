@@ -1,6 +1,4 @@
 -- `payload::control_payload` meets its contract: `search` goes through the rule as the code does.
-use Rattle.std.proofs.Common.{arith}
-use borrow.Author.Rules.{rules}
 use Rattle.payload.proofs.Reading.{payload-reading}
 use Rattle.payload.specs.Payload.{control}
 use Rattle.payload.proofs.control_payload.Goals as goal
@@ -20,4 +18,3 @@ returns-in-Done-take c = search payload-reading depth 20
 pub returns-else-n-ge1 : goal.returns-else-n-ge1
 unfolding control
 returns-else-n-ge1 c = search payload-reading depth 20
-

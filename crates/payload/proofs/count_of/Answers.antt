@@ -1,6 +1,4 @@
 -- `payload::count_of` meets its contract: `search` goes through the rule as the code does.
-use Rattle.std.proofs.Common.{arith}
-use borrow.Author.Rules.{rules}
 use Rattle.payload.proofs.Reading.{tables}
 use Rattle.payload.specs.Payload.{count_of}
 use Rattle.payload.proofs.count_of.Goals as goal
@@ -12,4 +10,3 @@ returns-in-Present c = search tables depth 20
 pub returns-in-Absent : goal.returns-in-Absent
 unfolding count_of
 returns-in-Absent c = search tables depth 20
-

@@ -1,6 +1,4 @@
 -- `payload::dlt_payload` meets its contract: `search` goes through the rule as the code does.
-use Rattle.std.proofs.Common.{arith}
-use borrow.Author.Rules.{rules}
 use Rattle.payload.proofs.Reading.{payload-reading}
 use Rattle.payload.specs.Payload.{payload}
 use Rattle.payload.proofs.dlt_payload.Goals as goal
@@ -16,4 +14,3 @@ returns-then-is_control c = search payload-reading depth 20
 pub returns : goal.returns
 unfolding payload
 returns c = search payload-reading depth 20
-

@@ -1,6 +1,4 @@
 -- `payload::is_control` meets its contract: `search` goes through the rule as the code does.
-use Rattle.std.proofs.Common.{arith}
-use borrow.Author.Rules.{rules}
 use Rattle.payload.proofs.Reading.{tables}
 use Rattle.payload.specs.Payload.{is_control_of}
 use Rattle.payload.proofs.is_control.Goals as goal
@@ -12,4 +10,3 @@ returns-in-Present c = search tables depth 20
 pub returns-in-Absent : goal.returns-in-Absent
 unfolding is_control_of
 returns-in-Absent c = search tables depth 20
-

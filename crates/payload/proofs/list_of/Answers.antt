@@ -1,5 +1,4 @@
 -- `payload::list_of` meets its contract: `search` goes through the rule as the code does.
-use Rattle.std.proofs.Common.{rules, arith}
 use Rattle.payload.proofs.Reading.{tables}
 use Rattle.payload.proofs.list_of.Goals as goal
 
@@ -8,4 +7,3 @@ returns-then-network c = search tables depth 20
 
 pub returns-else-network : goal.returns-else-network
 returns-else-network c = search tables depth 20
-

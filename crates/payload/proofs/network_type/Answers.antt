@@ -1,6 +1,4 @@
 -- `payload::network_type` meets its contract: `search` goes through the rule as the code does.
-use Rattle.std.proofs.Common.{arith}
-use borrow.Author.Rules.{rules}
 use Rattle.payload.proofs.Reading.{tables}
 use Rattle.payload.specs.Payload.{network_type_of}
 use Rattle.payload.proofs.network_type.Goals as goal
@@ -24,4 +22,3 @@ returns-in-Control c = search tables depth 20
 pub returns-in-Unknown : goal.returns-in-Unknown
 unfolding network_type_of
 returns-in-Unknown c = search tables depth 20
-

@@ -1,6 +1,4 @@
 -- `payload::plain_payload` meets its contract: `search` goes through the rule as the code does.
-use Rattle.std.proofs.Common.{arith}
-use borrow.Author.Rules.{rules}
 use Rattle.payload.proofs.Reading.{payload-reading}
 use Rattle.payload.specs.Payload.{plain}
 use Rattle.payload.proofs.plain_payload.Goals as goal
@@ -20,4 +18,3 @@ returns-in-Done-take c = search payload-reading depth 20
 pub returns-else-n-ge4 : goal.returns-else-n-ge4
 unfolding plain
 returns-else-n-ge4 c = search payload-reading depth 20
-

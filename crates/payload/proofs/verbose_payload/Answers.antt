@@ -1,6 +1,4 @@
 -- `payload::verbose_payload` meets its contract: `search` goes through the rule as the code does.
-use Rattle.std.proofs.Common.{arith}
-use borrow.Author.Rules.{rules}
 use Rattle.payload.proofs.Reading.{payload-reading}
 use Rattle.payload.specs.Payload.{verbose}
 use Rattle.payload.proofs.verbose_payload.Goals as goal
@@ -16,4 +14,3 @@ returns-in-Hickup c = search payload-reading depth 20
 pub returns : goal.returns
 unfolding verbose
 returns c = search payload-reading depth 20
-

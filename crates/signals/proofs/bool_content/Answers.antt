@@ -1,6 +1,4 @@
 -- `signals::bool_content` meets its contract: `search` goes through the rule as the code does.
-use Rattle.std.proofs.Common.{arith}
-use borrow.Author.Rules.{rules}
 use Rattle.signals.proofs.Reading.{contents}
 use Rattle.signals.specs.Signal.{content}
 use Rattle.signals.proofs.bool_content.Goals as goal
@@ -12,4 +10,3 @@ returns-in-Done c = search contents depth 20
 pub returns-in-Need : goal.returns-in-Need
 unfolding content
 returns-in-Need c = search contents depth 20
-

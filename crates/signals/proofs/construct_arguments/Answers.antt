@@ -1,13 +1,9 @@
 -- `signals::construct_arguments` meets its contract. The invariant: the whole is what is left of it at the loop's position.
-use Prim.Native.Nat.{◌≤◌, ◌-◌}
 use native.Mathlib.Omega.{arith}
-use mathlib.Core.Path.{◌≡◌, refl, ◌∙◌}
-use lib.ListN.{length, drop}
+use mathlib.Core.Path.{refl, ◌∙◌}
 use Rattle.wire.proofs.Step.{told}
 use Rattle.signals.specs.Signal.{signal_ans}
-use Rattle.signals.specs.Signals.{signals}
 use Rattle.signals.proofs.Words.{words_next, words_hickup, words_done}
-use borrow.Author.Rules.{rules}
 use Rattle.signals.proofs.construct_arguments.Goals as goal
 
 pub loop-i-init : goal.loop-i-init
@@ -25,4 +21,3 @@ loop-i-preserved c =
 
 pub returns : goal.returns
 returns c = words_done _ _ _ _ c.loop-i.i c.loop-i.invariant.1 c.loop-i.invariant.0 c.loop-i-test.false
-

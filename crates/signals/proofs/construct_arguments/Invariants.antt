@@ -10,4 +10,3 @@ invariant-loop-i l = (l.i ≤ length l.words) × (signals l.big l.words l.data 0
 
 abbrev pub decreases-loop-i : goal.decreases-loop-i
 decreases-loop-i l = length l.words - l.i
-

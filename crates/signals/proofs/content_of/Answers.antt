@@ -1,6 +1,4 @@
 -- `signals::content_of` meets its contract: `search` goes through the rule as the code does.
-use Rattle.std.proofs.Common.{arith}
-use borrow.Author.Rules.{rules}
 use Rattle.signals.proofs.Reading.{contents}
 use Rattle.signals.specs.Signal.{content}
 use Rattle.signals.proofs.content_of.Goals as goal
@@ -36,4 +34,3 @@ returns-in-Unsigned c = search contents depth 20
 pub returns-in-UnsignedFixedPoint : goal.returns-in-UnsignedFixedPoint
 unfolding content
 returns-in-UnsignedFixedPoint c = search contents depth 20
-

@@ -1,6 +1,4 @@
 -- `signals::fixed_point_content` meets its contract: `search` goes through the rule as the code does.
-use Rattle.std.proofs.Common.{arith}
-use borrow.Author.Rules.{rules}
 use Rattle.signals.proofs.Reading.{contents}
 use Rattle.signals.proofs.fixed_point_content.Goals as goal
 
@@ -9,4 +7,3 @@ returns-then-rest-n c = search contents depth 20
 
 pub returns : goal.returns
 returns c = search contents depth 20
-

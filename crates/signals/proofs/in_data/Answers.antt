@@ -1,6 +1,4 @@
 -- `signals::in_data` meets its contract: `search` goes through the rule as the code does.
-use Rattle.std.proofs.Common.{arith}
-use borrow.Author.Rules.{rules}
 use Rattle.signals.proofs.Reading.{contents}
 use Rattle.signals.specs.Signal.{in_data_of}
 use Rattle.signals.proofs.in_data.Goals as goal
@@ -16,4 +14,3 @@ returns-in-Hickup c = search contents depth 20
 pub returns : goal.returns
 unfolding in_data_of
 returns c = search contents depth 20
-

@@ -1,6 +1,4 @@
 -- `signals::number_content` meets its contract: `search` goes through the rule as the code does.
-use Rattle.std.proofs.Common.{arith}
-use borrow.Author.Rules.{rules}
 use Rattle.signals.proofs.Reading.{numbers}
 use Rattle.signals.proofs.number_content.Goals as goal
 
@@ -9,4 +7,3 @@ returns-in-Done c = search numbers depth 20
 
 pub returns-in-Need : goal.returns-in-Need
 returns-in-Need c = search numbers depth 20
-

@@ -1,6 +1,4 @@
 -- `signals::raw_content` meets its contract: `search` goes through the rule as the code does.
-use Rattle.std.proofs.Common.{arith}
-use borrow.Author.Rules.{rules}
 use Rattle.signals.proofs.Reading.{contents}
 use Rattle.signals.specs.Signal.{content}
 use Rattle.signals.proofs.raw_content.Goals as goal
@@ -16,4 +14,3 @@ returns-in-Done-take c = search contents depth 20
 pub returns-in-Need-take : goal.returns-in-Need-take
 unfolding content
 returns-in-Need-take c = search contents depth 20
-

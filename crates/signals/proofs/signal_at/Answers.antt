@@ -1,6 +1,4 @@
 -- `signals::signal_at` meets its contract: `search` goes through the rule as the code does.
-use Rattle.std.proofs.Common.{arith}
-use borrow.Author.Rules.{rules}
 use Rattle.signals.proofs.Reading.{one-signal}
 use Rattle.signals.proofs.signal_at.Goals as goal
 
@@ -15,4 +13,3 @@ returns-in-Hickup c = search one-signal depth 20
 
 pub returns-in-Refused : goal.returns-in-Refused
 returns-in-Refused c = search one-signal depth 20
-

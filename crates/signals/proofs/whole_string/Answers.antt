@@ -1,6 +1,4 @@
 -- `signals::whole_string` meets its contract: `search` goes through the rule as the code does.
-use Rattle.std.proofs.Common.{arith}
-use borrow.Author.Rules.{rules}
 use Rattle.signals.proofs.Reading.{contents}
 use Rattle.signals.proofs.whole_string.Goals as goal
 
@@ -12,4 +10,3 @@ returns-then-n-valid c = search contents depth 20
 
 pub returns-else-n-valid : goal.returns-else-n-valid
 returns-else-n-valid c = search contents depth 20
-

@@ -1,6 +1,4 @@
 -- `signals::SignalCursor::next` meets its contract: `search` goes through the rule as the code does.
-use Rattle.std.proofs.Common.{arith}
-use borrow.Author.Rules.{rules}
 use Rattle.signals.proofs.Reading.{signals-reading}
 use Rattle.signals.specs.Signals.{signal_turn}
 use Rattle.signals.proofs.SignalCursor.next.Goals as goal
@@ -16,4 +14,3 @@ returns-in-Done c = search signals-reading depth 20
 pub returns-else-i-words : goal.returns-else-i-words
 unfolding signal_turn
 returns-else-i-words c = search signals-reading depth 20
-
