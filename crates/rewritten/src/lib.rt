@@ -4,7 +4,11 @@
 // The buffer stands on the stack and holds 1,024 bytes. A good filter has at most 803, so bytes that fill the buffer are bad, whatever follows them.
 #![tactic(auto)]
 
-ghost use Rattle.std.specs.Prelude.{◌≡◌, ◌≤◌, length, IfOk};
+ghost use Rattle.std.specs.Prelude.{◌≡◌, ◌≤◌, length, take, OnOk};
+ghost use Rattle.std.specs.Fmt.{signed_decimal};
+ghost use Rattle.std.specs.Io.KnownBytes.{Appends};
+ghost use Rattle.rewritten.specs.Gathered.{Gathered};
+ghost use Rattle.rewritten.specs.Written.{line_of, context_line_of, removed_lines, Written, written, unreadable_line, Grow, IsOf};
 
 use filter::{Counts, OptIdCount};
 use retired::Rewritten;
@@ -26,7 +30,9 @@ enum Input {
 }
 
 // Reads until the input ends, the buffer is full or a read fails. A read that fails is not the end of the input.
-fn gather<R: Read>(input: &mut R, buf: &mut [u8]) -> Input {
+fn gather<R: Read>(input: &mut R, buf: &mut [u8]) -> Input
+    ensures { Gathered (R.remaining input.old) buf.new result }
+{
     let mut done = 0;
     while done < buf.len() {
         match input.read(&mut buf[done..]) {
@@ -39,7 +45,9 @@ fn gather<R: Read>(input: &mut R, buf: &mut [u8]) -> Input {
 }
 
 // A signed number in decimal.
-fn print_signed<W: Write>(out: &mut W, n: i64) -> io::Result<()> {
+fn print_signed<W: Write>(out: &mut W, n: i64) -> io::Result<()>
+    ensures { OnOk result (Appends (W.contents out.old) (W.contents out.new) (signed_decimal n)) }
+{
     if n < 0 {
         out.write_all(b"-")?;
     }
@@ -48,7 +56,9 @@ fn print_signed<W: Write>(out: &mut W, n: i64) -> io::Result<()> {
 }
 
 // The line of a count whose field stood at `at`.
-fn line<W: Write>(lines: &mut W, at: u64, name: &[u8], n: i64) -> io::Result<()> {
+fn line<W: Write>(lines: &mut W, at: u64, name: &[u8], n: i64) -> io::Result<()>
+    ensures { OnOk result (Appends (W.contents lines.old) (W.contents lines.new) (line_of at name.now n)) }
+{
     write!(lines, "removed {at} 11 ")?;
     lines.write_all(name)?;
     lines.write_all(b" count ")?;
@@ -57,7 +67,9 @@ fn line<W: Write>(lines: &mut W, at: u64, name: &[u8], n: i64) -> io::Result<()>
 }
 
 // The context count, if it was there.
-fn context_line<W: Write>(lines: &mut W, at: u64, contexts: OptIdCount) -> io::Result<()> {
+fn context_line<W: Write>(lines: &mut W, at: u64, contexts: OptIdCount) -> io::Result<()>
+    ensures { OnOk result (Appends (W.contents lines.old) (W.contents lines.new) (context_line_of at contexts)) }
+{
     match contexts {
         OptIdCount::Present(n) => line(lines, at, b"context", n),
         OptIdCount::Absent => Ok(()),
@@ -67,7 +79,7 @@ fn context_line<W: Write>(lines: &mut W, at: u64, contexts: OptIdCount) -> io::R
 // The counts that were there, in order; the first stood behind the `kept` bytes.
 fn removed<W: Write>(lines: &mut W, kept: usize, counts: Counts) -> io::Result<()>
     requires { kept ≤ 781 }
-    ensures { IfOk result (λ done. done ≡ tt) }
+    ensures { OnOk result (Appends (W.contents lines.old) (W.contents lines.new) (removed_lines kept counts)) }
 {
     let at = kept as u64;
     let apps = counts.apps;
@@ -82,7 +94,9 @@ fn removed<W: Write>(lines: &mut W, kept: usize, counts: Counts) -> io::Result<(
 }
 
 // Writes what is left of a filter, and what was removed.
-fn show<W: Write, L: Write>(f: &[u8], bytes: &mut W, lines: &mut L) -> io::Result<()> {
+fn show<W: Write, L: Write>(f: &[u8], bytes: &mut W, lines: &mut L) -> io::Result<()>
+    ensures { OnOk result (Grow (W.contents bytes.old) (W.contents bytes.new) (L.contents lines.old) (L.contents lines.new) (written f.now)) }
+{
     match retired::without_counts(f) {
         Rewritten::Kept(cut) => {
             let kept = cut.kept;
@@ -100,7 +114,9 @@ fn show_first<W: Write, L: Write>(
     n: usize,
     bytes: &mut W,
     lines: &mut L,
-) -> io::Result<()> {
+) -> io::Result<()>
+    ensures { n ≤ length s.now → OnOk result (Grow (W.contents bytes.old) (W.contents bytes.new) (L.contents lines.old) (L.contents lines.new) (written (take n s.now))) }
+{
     if n <= s.len() {
         show(&s[..n], bytes, lines)
     } else {
@@ -110,7 +126,7 @@ fn show_first<W: Write, L: Write>(
 
 // Writes the line of an input that cannot be read.
 pub fn unreadable<L: Write>(lines: &mut L) -> io::Result<()>
-    ensures { IfOk result (λ done. done ≡ tt) }
+    ensures { OnOk result (Appends (L.contents lines.old) (L.contents lines.new) unreadable_line) }
 {
     lines.write_all(b"rewriter: the input cannot be read\n")
 }
@@ -122,7 +138,8 @@ pub fn rewrite<R: Read, W: Write, L: Write>(
     bytes: &mut W,
     lines: &mut L,
 ) -> io::Result<()>
-    ensures { IfOk result (λ done. done ≡ tt) }
+    ensures { OnOk result ((w : Written) × IsOf (R.remaining input.old) w
+        × Grow (W.contents bytes.old) (W.contents bytes.new) (L.contents lines.old) (L.contents lines.new) w) }
 {
     let mut buf = room();
     match gather(input, &mut buf) {
