@@ -4,7 +4,10 @@
 // The listing goes to one writer, the line that says that a read failed to another. A write that fails ends the call with its error.
 #![tactic(auto)]
 
-ghost use Rattle.std.specs.Prelude.{◌≡◌, ◌+◌, ◌≤◌, length, IfOk};
+ghost use Rattle.std.specs.Prelude.{◌≡◌, ◌≤◌, ◌++◌, length, take, replicate, decimal, codes, OnOk};
+ghost use Rattle.std.specs.Io.KnownBytes.{Appends};
+ghost use Rattle.listed.specs.Gathered.{Gathered, Probed};
+ghost use Rattle.listed.specs.Listing.{kind_text, line_text, entry_lines, entries_in, ending_text, listing_text, Told, unreadable_line, Tells};
 
 use entries::Entry;
 use index::{End, Indexed, State};
@@ -23,7 +26,8 @@ fn room() -> [u8; 65536]
 
 // The numbers of 1,024 entries.
 fn table_room() -> [u64; 4096]
-    ensures { 4096 ≡ length result }
+    ensures long { 4096 ≡ length result }
+    ensures zeros { result ≡ replicate 4096 0 }
 {
     [0; 4096]
 }
@@ -37,7 +41,9 @@ enum Input {
 }
 
 // Whether the input has a byte more, once the buffer is full.
-fn at_end<R: Read>(input: &mut R, n: usize) -> Input {
+fn at_end<R: Read>(input: &mut R, n: usize) -> Input
+    ensures { Probed (R.remaining input.old) n result }
+{
     let mut one = [0u8; 1];
     match input.read(&mut one) {
         Ok(0) => Input::Bytes(n),
@@ -47,7 +53,9 @@ fn at_end<R: Read>(input: &mut R, n: usize) -> Input {
 }
 
 // Reads until the input ends, the buffer is full or a read fails. A read that fails is not the end of the input.
-fn gather<R: Read>(input: &mut R, buf: &mut [u8]) -> Input {
+fn gather<R: Read>(input: &mut R, buf: &mut [u8]) -> Input
+    ensures { Gathered (R.remaining input.old) buf.new result }
+{
     let mut done = 0;
     while done < buf.len() {
         match input.read(&mut buf[done..]) {
@@ -60,12 +68,16 @@ fn gather<R: Read>(input: &mut R, buf: &mut [u8]) -> Input {
 }
 
 // A number and what stands behind it.
-fn number<W: Write>(out: &mut W, n: u64, behind: &[u8]) -> io::Result<()> {
+fn number<W: Write>(out: &mut W, n: u64, behind: &[u8]) -> io::Result<()>
+    ensures { OnOk result (Appends (W.contents out.old) (W.contents out.new) (decimal n ++ behind.now)) }
+{
     write!(out, "{n}")?;
     out.write_all(behind)
 }
 
-fn kind<W: Write>(out: &mut W, k: u64) -> io::Result<()> {
+fn kind<W: Write>(out: &mut W, k: u64) -> io::Result<()>
+    ensures { OnOk result (Appends (W.contents out.old) (W.contents out.new) (kind_text k)) }
+{
     match k {
         0 => out.write_all(b"item\n"),
         1 => out.write_all(b"filtered\n"),
@@ -76,7 +88,9 @@ fn kind<W: Write>(out: &mut W, k: u64) -> io::Result<()> {
 }
 
 // The line of one entry.
-fn line<W: Write>(out: &mut W, start: u64, skipped: u64, length: u64, k: u64) -> io::Result<()> {
+fn line<W: Write>(out: &mut W, start: u64, skipped: u64, length: u64, k: u64) -> io::Result<()>
+    ensures { OnOk result (Appends (W.contents out.old) (W.contents out.new) (line_text start skipped length k)) }
+{
     number(out, start, b" ")?;
     number(out, skipped, b" ")?;
     number(out, length, b" ")?;
@@ -84,7 +98,9 @@ fn line<W: Write>(out: &mut W, start: u64, skipped: u64, length: u64, k: u64) ->
 }
 
 // The lines of the first `used` entries of a table of numbers.
-fn lines<W: Write>(out: &mut W, table: &[u64], used: usize) -> io::Result<()> {
+fn lines<W: Write>(out: &mut W, table: &[u64], used: usize) -> io::Result<()>
+    ensures { OnOk result (Appends (W.contents out.old) (W.contents out.new) (entry_lines (take used (entries_in table.now)))) }
+{
     let mut i = 0;
     while i < used {
         if table.len() / 4 <= i {
@@ -98,7 +114,9 @@ fn lines<W: Write>(out: &mut W, table: &[u64], used: usize) -> io::Result<()> {
 }
 
 // The lines of the first `used` entries of a table of structs.
-fn struct_lines<W: Write>(out: &mut W, table: [Entry; 1024], used: usize) -> io::Result<()> {
+fn struct_lines<W: Write>(out: &mut W, table: [Entry; 1024], used: usize) -> io::Result<()>
+    ensures { OnOk result (Appends (W.contents out.old) (W.contents out.new) (entry_lines (take used table))) }
+{
     let mut i = 0;
     while i < used {
         if 1024 <= i {
@@ -112,7 +130,9 @@ fn struct_lines<W: Write>(out: &mut W, table: [Entry; 1024], used: usize) -> io:
 }
 
 // The last line.
-fn ending<W: Write>(out: &mut W, end: End, state: State) -> io::Result<()> {
+fn ending<W: Write>(out: &mut W, end: End, state: State) -> io::Result<()>
+    ensures { OnOk result (Appends (W.contents out.old) (W.contents out.new) (ending_text state end)) }
+{
     match end {
         End::Waits(need) => {
             out.write_all(b"waits ")?;
@@ -126,12 +146,16 @@ fn ending<W: Write>(out: &mut W, end: End, state: State) -> io::Result<()> {
     }
 }
 
-fn heading<W: Write>(out: &mut W) -> io::Result<()> {
+fn heading<W: Write>(out: &mut W) -> io::Result<()>
+    ensures { OnOk result (Appends (W.contents out.old) (W.contents out.new) (codes "start skipped length kind\n")) }
+{
     out.write_all(b"start skipped length kind\n")
 }
 
 // The listing, by the index call over a table of numbers.
-fn show_numbers<W: Write>(out: &mut W, s: &[u8]) -> io::Result<()> {
+fn show_numbers<W: Write>(out: &mut W, s: &[u8]) -> io::Result<()>
+    ensures { OnOk result (Appends (W.contents out.old) (W.contents out.new) (listing_text s.now)) }
+{
     let mut table = table_room();
     let fresh = State { at: 0, used: 0 };
     let got = index::index(s, b"", fresh, &mut table, NO_LIMIT);
@@ -143,7 +167,9 @@ fn show_numbers<W: Write>(out: &mut W, s: &[u8]) -> io::Result<()> {
 }
 
 // The listing, by the index call over a table of structs.
-fn show_structs<W: Write>(out: &mut W, s: &[u8]) -> io::Result<()> {
+fn show_structs<W: Write>(out: &mut W, s: &[u8]) -> io::Result<()>
+    ensures { OnOk result (Appends (W.contents out.old) (W.contents out.new) (listing_text s.now)) }
+{
     let fresh = State { at: 0, used: 0 };
     let got = filled::fill(s, b"", fresh, NO_LIMIT);
     let answer = got.answer;
@@ -155,7 +181,9 @@ fn show_structs<W: Write>(out: &mut W, s: &[u8]) -> io::Result<()> {
     ending(out, end, state)
 }
 
-fn show<W: Write>(out: &mut W, s: &[u8], structs: bool) -> io::Result<()> {
+fn show<W: Write>(out: &mut W, s: &[u8], structs: bool) -> io::Result<()>
+    ensures { OnOk result (Appends (W.contents out.old) (W.contents out.new) (listing_text s.now)) }
+{
     if structs {
         show_structs(out, s)
     } else {
@@ -164,7 +192,9 @@ fn show<W: Write>(out: &mut W, s: &[u8], structs: bool) -> io::Result<()> {
 }
 
 // The listing of the first `n` bytes.
-fn show_first<W: Write>(out: &mut W, s: &[u8], n: usize, structs: bool) -> io::Result<()> {
+fn show_first<W: Write>(out: &mut W, s: &[u8], n: usize, structs: bool) -> io::Result<()>
+    ensures { n ≤ length s.now → OnOk result (Appends (W.contents out.old) (W.contents out.new) (listing_text (take n s.now))) }
+{
     if n <= s.len() {
         show(out, &s[..n], structs)
     } else {
@@ -178,7 +208,11 @@ fn read_and_show<R: Read, W: Write, E: Write>(
     out: &mut W,
     errors: &mut E,
     structs: bool,
-) -> io::Result<()> {
+) -> io::Result<()>
+    ensures { OnOk result ((t : Told) × Tells (R.remaining input.old) t
+        × Appends (W.contents out.old) (W.contents out.new) t.out
+        × Appends (E.contents errors.old) (E.contents errors.new) t.errors) }
+{
     let mut buf = room();
     match gather(input, &mut buf) {
         Input::Bytes(n) => show_first(out, &buf, n, structs),
@@ -189,7 +223,7 @@ fn read_and_show<R: Read, W: Write, E: Write>(
 
 // Writes the line of an input that cannot be read.
 pub fn unreadable<E: Write>(errors: &mut E) -> io::Result<()>
-    ensures { IfOk result (λ done. done ≡ tt) }
+    ensures { OnOk result (Appends (E.contents errors.old) (E.contents errors.new) unreadable_line) }
 {
     errors.write_all(b"listing: the input cannot be read\n")
 }
@@ -200,7 +234,9 @@ pub fn list<R: Read, W: Write, E: Write>(
     out: &mut W,
     errors: &mut E,
 ) -> io::Result<()>
-    ensures { IfOk result (λ done. done ≡ tt) }
+    ensures { OnOk result ((t : Told) × Tells (R.remaining input.old) t
+        × Appends (W.contents out.old) (W.contents out.new) t.out
+        × Appends (E.contents errors.old) (E.contents errors.new) t.errors) }
 {
     read_and_show(input, out, errors, false)
 }
@@ -211,7 +247,9 @@ pub fn list_structs<R: Read, W: Write, E: Write>(
     out: &mut W,
     errors: &mut E,
 ) -> io::Result<()>
-    ensures { IfOk result (λ done. done ≡ tt) }
+    ensures { OnOk result ((t : Told) × Tells (R.remaining input.old) t
+        × Appends (W.contents out.old) (W.contents out.new) t.out
+        × Appends (E.contents errors.old) (E.contents errors.new) t.errors) }
 {
     read_and_show(input, out, errors, true)
 }
