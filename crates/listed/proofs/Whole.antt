@@ -1,11 +1,10 @@
 -- The listing of all that a reader had, by way of either table.
-use Rattle.std.proofs.Common.{◌≡◌, ℕ, zero, suc, ◌+◌, ◌*◌, ◌<◌, ◌≤◌, List, [], ◌∷◌, ◌++◌, Option, None, Some, Result, Ok, Err, IfSome, OnOk, length, take, replicate, codes, refl, sym, ap, ◌∙◌, inl, inr, arith}
-use Rattle.index.specs.Index.{Outcome, call, outcome}
+use Rattle.std.proofs.Common.{◌≡◌, ℕ, zero, suc, ◌*◌, ◌<◌, List, [], ◌∷◌, ◌++◌, Option, None, Some, Result, Ok, Err, IfSome, OnOk, length, take, replicate, codes, refl, sym, ap, ◌∙◌, inl, inr, arith}
+use Rattle.index.specs.Index.{Outcome, outcome}
 use Rattle.index.specs.Calls.{fresh, unlimited}
 use Rattle.index.specs.declared.Indexed.{Indexed}
 use Rattle.entries.specs.declared.Entry.{Entry}
-use Rattle.entries.specs.Form.{entry_form}
-use Rattle.entries.specs.Flat.{fields, numbers, spread, flat_of}
+use Rattle.entries.specs.Flat.{numbers, spread, flat_of}
 use Rattle.entries.proofs.Flat.{same_call}
 use Rattle.filled.specs.Filled.{empty}
 use Rattle.listed.specs.Listing.{entry_lines, entries_in, ending_text, outcome_text, index_of, listing_text, over_limit, Tells}

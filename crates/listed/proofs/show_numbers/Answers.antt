@@ -1,5 +1,5 @@
 -- The heading, the lines of the entries and the last line are the listing.
-use Rattle.std.proofs.Common.{ap, ◌∙◌, sym, subst}
+use Rattle.std.proofs.Common.{subst}
 use Rattle.std.specs.Io.KnownBytes.{Appends}
 use Rattle.std.proofs.KnownBytes.{Appends-trans}
 use Rattle.listed.proofs.Whole.{on_ok, by_numbers}
