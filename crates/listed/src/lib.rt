@@ -1,18 +1,33 @@
-// The listing of a trace: what the program `listing` prints of its standard input, here of any file descriptor. At most 65,536 bytes, into 1,024
+// The listing of a trace: what the program `listing` prints of its standard input, here of any reader. At most 65,536 bytes, into 1,024
 // entries, with no filter. The buffer and the table stand on the stack. The table is one of numbers or one of structs, and the listing is the same.
+//
+// The listing goes to one writer, the line that says that a read failed to another. A write that fails ends the call with its error.
 #![tactic(auto)]
-ghost use Rattle.std.specs.Prelude.{◌≡◌, ◌+◌, ◌≤◌, length};
+
+ghost use Rattle.std.specs.Prelude.{◌≡◌, ◌≤◌, ◌++◌, length, take, replicate, decimal, codes, OnOk};
+ghost use Rattle.std.specs.Io.KnownBytes.{Appends};
+ghost use Rattle.listed.specs.Gathered.{Gathered, Probed};
+ghost use Rattle.listed.specs.Listing.{kind_text, line_text, entry_lines, entries_in, ending_text, listing_text, Told, unreadable_line, Tells};
 
 use entries::Entry;
 use index::{End, Indexed, State};
-use libc::{STDERR_FILENO, STDOUT_FILENO};
+use std::io;
+use std::io::{Read, Write};
 
 // As many entries as the table holds.
 const NO_LIMIT: usize = 18446744073709551615;
 
+// Room for the input.
+fn room() -> [u8; 65536]
+    ensures { 65536 ≡ length result }
+{
+    [0; 65536]
+}
+
 // The numbers of 1,024 entries.
 fn table_room() -> [u64; 4096]
-    ensures { 4096 ≡ length result }
+    ensures long { 4096 ≡ length result }
+    ensures zeros { result ≡ replicate 4096 0 }
 {
     [0; 4096]
 }
@@ -26,180 +41,215 @@ enum Input {
 }
 
 // Whether the input has a byte more, once the buffer is full.
-fn at_end(fd: i32, n: usize) -> Input {
+fn at_end<R: Read>(input: &mut R, n: usize) -> Input
+    ensures { Probed (R.remaining input.old) n result }
+{
     let mut one = [0u8; 1];
-    let got = libc::read(fd, &mut one);
-    if got < 0 {
-        return Input::Failed;
+    match input.read(&mut one) {
+        Ok(0) => Input::Bytes(n),
+        Ok(_) => Input::Longer,
+        Err(_) => Input::Failed,
     }
-    if got == 0 {
-        return Input::Bytes(n);
-    }
-    Input::Longer
 }
 
 // Reads until the input ends, the buffer is full or a read fails. A read that fails is not the end of the input.
-fn gather(fd: i32, buf: &mut [u8]) -> Input {
+fn gather<R: Read>(input: &mut R, buf: &mut [u8]) -> Input
+    ensures { Gathered (R.remaining input.old) buf.new result }
+{
     let mut done = 0;
     while done < buf.len() {
-        let got = libc::read(fd, &mut buf[done..]);
-        if got < 0 {
-            return Input::Failed;
+        match input.read(&mut buf[done..]) {
+            Ok(0) => return Input::Bytes(done),
+            Ok(n) => done += n,
+            Err(_) => return Input::Failed,
         }
-        let n = io::count(got, &buf[done..]);
-        if n == 0 {
-            return Input::Bytes(done);
-        }
-        done += n;
     }
-    at_end(fd, done)
+    at_end(input, done)
 }
 
 // A number and what stands behind it.
-fn number(n: u64, behind: &[u8]) {
-    io::print_decimal(STDOUT_FILENO, n);
-    io::write_all(STDOUT_FILENO, behind);
+fn number<W: Write>(out: &mut W, n: u64, behind: &[u8]) -> io::Result<()>
+    ensures { OnOk result (Appends (W.contents out.old) (W.contents out.new) (decimal n ++ behind.now)) }
+{
+    write!(out, "{n}")?;
+    out.write_all(behind)
 }
 
-fn kind(k: u64) {
-    if k == 0 {
-        io::write_all(STDOUT_FILENO, b"item\n");
-        return;
+fn kind<W: Write>(out: &mut W, k: u64) -> io::Result<()>
+    ensures { OnOk result (Appends (W.contents out.old) (W.contents out.new) (kind_text k)) }
+{
+    match k {
+        0 => out.write_all(b"item\n"),
+        1 => out.write_all(b"filtered\n"),
+        2 => out.write_all(b"hickup\n"),
+        3 => out.write_all(b"unrecoverable\n"),
+        _ => out.write_all(b"overrun\n"),
     }
-    if k == 1 {
-        io::write_all(STDOUT_FILENO, b"filtered\n");
-        return;
-    }
-    if k == 2 {
-        io::write_all(STDOUT_FILENO, b"hickup\n");
-        return;
-    }
-    if k == 3 {
-        io::write_all(STDOUT_FILENO, b"unrecoverable\n");
-        return;
-    }
-    io::write_all(STDOUT_FILENO, b"overrun\n");
 }
 
 // The line of one entry.
-fn line(start: u64, skipped: u64, length: u64, k: u64) {
-    number(start, b" ");
-    number(skipped, b" ");
-    number(length, b" ");
-    kind(k);
+fn line<W: Write>(out: &mut W, start: u64, skipped: u64, length: u64, k: u64) -> io::Result<()>
+    ensures { OnOk result (Appends (W.contents out.old) (W.contents out.new) (line_text start skipped length k)) }
+{
+    number(out, start, b" ")?;
+    number(out, skipped, b" ")?;
+    number(out, length, b" ")?;
+    kind(out, k)
 }
 
 // The lines of the first `used` entries of a table of numbers.
-fn lines(table: &[u64], used: usize) {
+fn lines<W: Write>(out: &mut W, table: &[u64], used: usize) -> io::Result<()>
+    ensures { OnOk result (Appends (W.contents out.old) (W.contents out.new) (entry_lines (take used (entries_in table.now)))) }
+{
     let mut i = 0;
     while i < used {
         if table.len() / 4 <= i {
-            return;
+            return Ok(());
         }
         let at = 4 * i;
-        line(table[at], table[at + 1], table[at + 2], table[at + 3]);
+        line(out, table[at], table[at + 1], table[at + 2], table[at + 3])?;
         i += 1;
     }
+    Ok(())
 }
 
 // The lines of the first `used` entries of a table of structs.
-fn struct_lines(table: [Entry; 1024], used: usize) {
+fn struct_lines<W: Write>(out: &mut W, table: [Entry; 1024], used: usize) -> io::Result<()>
+    ensures { OnOk result (Appends (W.contents out.old) (W.contents out.new) (entry_lines (take used table))) }
+{
     let mut i = 0;
     while i < used {
         if 1024 <= i {
-            return;
+            return Ok(());
         }
         let e = table[i];
-        line(e.start, e.skipped, e.length, e.kind);
+        line(out, e.start, e.skipped, e.length, e.kind)?;
         i += 1;
     }
+    Ok(())
 }
 
 // The last line.
-fn ending(end: End, state: State) {
+fn ending<W: Write>(out: &mut W, end: End, state: State) -> io::Result<()>
+    ensures { OnOk result (Appends (W.contents out.old) (W.contents out.new) (ending_text state end)) }
+{
     match end {
         End::Waits(need) => {
-            io::write_all(STDOUT_FILENO, b"waits ");
-            number(state.at as u64, b" ");
-            number(need as u64, b"\n");
+            out.write_all(b"waits ")?;
+            number(out, state.at as u64, b" ")?;
+            number(out, need as u64, b"\n")
         }
         _ => {
-            io::write_all(STDOUT_FILENO, b"full ");
-            number(state.at as u64, b"\n");
+            out.write_all(b"full ")?;
+            number(out, state.at as u64, b"\n")
         }
     }
 }
 
-fn heading() {
-    io::write_all(STDOUT_FILENO, b"start skipped length kind\n");
+fn heading<W: Write>(out: &mut W) -> io::Result<()>
+    ensures { OnOk result (Appends (W.contents out.old) (W.contents out.new) (codes "start skipped length kind\n")) }
+{
+    out.write_all(b"start skipped length kind\n")
 }
 
 // The listing, by the index call over a table of numbers.
-fn show_numbers(s: &[u8]) {
+fn show_numbers<W: Write>(out: &mut W, s: &[u8]) -> io::Result<()>
+    ensures { OnOk result (Appends (W.contents out.old) (W.contents out.new) (listing_text s.now)) }
+{
     let mut table = table_room();
     let fresh = State { at: 0, used: 0 };
     let got = index::index(s, b"", fresh, &mut table, NO_LIMIT);
     let state = got.state;
     let end = got.end;
-    heading();
-    lines(&table, state.used);
-    ending(end, state);
+    heading(out)?;
+    lines(out, &table, state.used)?;
+    ending(out, end, state)
 }
 
 // The listing, by the index call over a table of structs.
-fn show_structs(s: &[u8]) {
+fn show_structs<W: Write>(out: &mut W, s: &[u8]) -> io::Result<()>
+    ensures { OnOk result (Appends (W.contents out.old) (W.contents out.new) (listing_text s.now)) }
+{
     let fresh = State { at: 0, used: 0 };
     let got = filled::fill(s, b"", fresh, NO_LIMIT);
     let answer = got.answer;
     let table = got.table;
     let state = answer.state;
     let end = answer.end;
-    heading();
-    struct_lines(table, state.used);
-    ending(end, state);
+    heading(out)?;
+    struct_lines(out, table, state.used)?;
+    ending(out, end, state)
 }
 
-fn show(s: &[u8], structs: bool) {
+fn show<W: Write>(out: &mut W, s: &[u8], structs: bool) -> io::Result<()>
+    ensures { OnOk result (Appends (W.contents out.old) (W.contents out.new) (listing_text s.now)) }
+{
     if structs {
-        show_structs(s);
+        show_structs(out, s)
     } else {
-        show_numbers(s);
+        show_numbers(out, s)
     }
 }
 
 // The listing of the first `n` bytes.
-fn show_first(s: &[u8], n: usize, structs: bool) {
-    if n <= s.len() {
-        show(&s[..n], structs);
-    }
-}
-
-// Reads what `fd` has, and prints its listing.
-fn read_and_show(fd: i32, structs: bool) {
-    let mut buf = io::large_buffer();
-    match gather(fd, &mut buf) {
-        Input::Bytes(n) => {
-            show_first(&buf, n, structs);
-        }
-        Input::Longer => {
-            io::write_all(STDOUT_FILENO, b"refused: over 65536\n");
-        }
-        Input::Failed => {
-            io::write_all(STDERR_FILENO, b"listing: the input cannot be read\n");
-        }
-    }
-}
-
-// Prints the listing of what `fd` has. Longer input prints one line only; a read that fails prints one line on standard error.
-pub fn list(fd: i32)
-    ensures { result ≡ tt }
+fn show_first<W: Write>(out: &mut W, s: &[u8], n: usize, structs: bool) -> io::Result<()>
+    ensures { n ≤ length s.now → OnOk result (Appends (W.contents out.old) (W.contents out.new) (listing_text (take n s.now))) }
 {
-    read_and_show(fd, false);
+    if n <= s.len() {
+        show(out, &s[..n], structs)
+    } else {
+        Ok(())
+    }
+}
+
+// Reads what `input` has, and writes its listing.
+fn read_and_show<R: Read, W: Write, E: Write>(
+    input: &mut R,
+    out: &mut W,
+    errors: &mut E,
+    structs: bool,
+) -> io::Result<()>
+    ensures { OnOk result ((t : Told) × Tells (R.remaining input.old) t
+        × Appends (W.contents out.old) (W.contents out.new) t.out
+        × Appends (E.contents errors.old) (E.contents errors.new) t.errors) }
+{
+    let mut buf = room();
+    match gather(input, &mut buf) {
+        Input::Bytes(n) => show_first(out, &buf, n, structs),
+        Input::Longer => out.write_all(b"refused: over 65536\n"),
+        Input::Failed => unreadable(errors),
+    }
+}
+
+// Writes the line of an input that cannot be read.
+pub fn unreadable<E: Write>(errors: &mut E) -> io::Result<()>
+    ensures { OnOk result (Appends (E.contents errors.old) (E.contents errors.new) unreadable_line) }
+{
+    errors.write_all(b"listing: the input cannot be read\n")
+}
+
+// Writes the listing of what `input` has to `out`. Longer input has one line only; a read that fails has one line, which goes to `errors`.
+pub fn list<R: Read, W: Write, E: Write>(
+    input: &mut R,
+    out: &mut W,
+    errors: &mut E,
+) -> io::Result<()>
+    ensures { OnOk result ((t : Told) × Tells (R.remaining input.old) t
+        × Appends (W.contents out.old) (W.contents out.new) t.out
+        × Appends (E.contents errors.old) (E.contents errors.new) t.errors) }
+{
+    read_and_show(input, out, errors, false)
 }
 
 // The same listing, by way of a table of structs.
-pub fn list_structs(fd: i32)
-    ensures { result ≡ tt }
+pub fn list_structs<R: Read, W: Write, E: Write>(
+    input: &mut R,
+    out: &mut W,
+    errors: &mut E,
+) -> io::Result<()>
+    ensures { OnOk result ((t : Told) × Tells (R.remaining input.old) t
+        × Appends (W.contents out.old) (W.contents out.new) t.out
+        × Appends (E.contents errors.old) (E.contents errors.new) t.errors) }
 {
-    read_and_show(fd, true);
+    read_and_show(input, out, errors, true)
 }

@@ -12,47 +12,45 @@
 //
 // The recording: the first 60 messages that `dlt-receive -o` wrote while a program logged arguments of every kind.
 #![tactic(auto)]
-use libc::STDOUT_FILENO;
+
+use std::io::Write;
+use std::{fs, io};
 
 // The line above a listing.
-fn title(path: &[u8], table: &[u8]) {
-    io::write_all(STDOUT_FILENO, path);
-    io::write_all(STDOUT_FILENO, table);
+fn title<W: Write>(out: &mut W, path: &str, table: &str) -> io::Result<()> {
+    out.write_all(path.as_bytes())?;
+    out.write_all(table.as_bytes())
 }
 
-fn close(fd: i32) {
-    if 0 <= fd {
-        libc::close(fd);
+fn by_numbers(rt: &HostRuntime, path: &str) -> io::Result<()> {
+    title(&mut rt.stdout(), path, " by a table of numbers\n")?;
+    match fs::open(rt, path) {
+        Ok(mut file) => listed::list(&mut file, &mut rt.stdout(), &mut rt.stderr()),
+        Err(_) => listed::unreadable(&mut rt.stderr()),
     }
 }
 
-fn by_numbers(path: &[u8]) {
-    title(path, b" by a table of numbers\n");
-    let fd = os::open_read(path);
-    listed::list(fd);
-    close(fd);
+fn by_structs(rt: &HostRuntime, path: &str) -> io::Result<()> {
+    title(&mut rt.stdout(), path, " by a table of structs\n")?;
+    match fs::open(rt, path) {
+        Ok(mut file) => listed::list_structs(&mut file, &mut rt.stdout(), &mut rt.stderr()),
+        Err(_) => listed::unreadable(&mut rt.stderr()),
+    }
 }
 
-fn by_structs(path: &[u8]) {
-    title(path, b" by a table of structs\n");
-    let fd = os::open_read(path);
-    listed::list_structs(fd);
-    close(fd);
+fn both(rt: &HostRuntime, path: &str) -> io::Result<()> {
+    by_numbers(rt, path)?;
+    by_structs(rt, path)
 }
 
-fn both(path: &[u8]) {
-    by_numbers(path);
-    by_structs(path);
-}
-
-fn main() {
-    both(b"first30.dlt");
-    both(b"empty.dlt");
-    both(b"full.dlt");
-    both(b"ascii-mode.dlt");
-    both(b"junk-between.dlt");
-    both(b"len-below-headers.dlt");
-    both(b"strlen-big.dlt");
-    both(b"over.dlt");
-    both(b"missing.dlt");
+fn main(rt: HostRuntime) -> io::Result<()> {
+    both(&rt, "first30.dlt")?;
+    both(&rt, "empty.dlt")?;
+    both(&rt, "full.dlt")?;
+    both(&rt, "ascii-mode.dlt")?;
+    both(&rt, "junk-between.dlt")?;
+    both(&rt, "len-below-headers.dlt")?;
+    both(&rt, "strlen-big.dlt")?;
+    both(&rt, "over.dlt")?;
+    both(&rt, "missing.dlt")
 }

@@ -1,11 +1,13 @@
-// The lines of standard input. Bytes are read in large blocks, behind what is kept at the front of the input buffer: the beginning of a line
+// The lines of the input. Bytes are read in large blocks, behind what is kept at the front of the input buffer: the beginning of a line
 // whose newline has not come yet. No byte is searched twice.
 ghost use Rattle.std.specs.Prelude.{◌≤◌, length};
-ghost use Rattle.io.specs.Counts.{IsPrefixLen};
+ghost use Rattle.std.specs.Io.{ReadsAtMost};
 
 use crate::answer::LONGEST;
 use crate::writer::Out;
 use crate::{answer, writer};
+use std::io;
+use std::io::Read;
 
 // Where the reading stands between two blocks: how many bytes are kept at the front of the input buffer, whether what comes up to the next
 // newline is dropped, since it is the end of a line that was too long and has its answer, and whether the input has ended.
@@ -17,15 +19,14 @@ struct Feed {
 }
 
 // One read behind the bytes that are kept. Answers how many bytes stand in the buffer then.
-fn read_more(input: &mut [u8], kept: usize) -> usize
-    ensures { IsPrefixLen result input.new }
+fn read_more<R: Read>(from: &mut R, input: &mut [u8], kept: usize) -> io::Result<usize>
+    ensures { ReadsAtMost result input.new }
 {
     if input.len() <= kept {
-        return 0;
+        return Ok(0);
     }
-    let got = libc::read(0, &mut input[kept..]);
-    let n = io::count(got, &input[kept..]);
-    kept + n
+    let n = from.read(&mut input[kept..])?;
+    Ok(kept + n)
 }
 
 // Where the next newline stands at `from` or behind it: the length where there is none.
@@ -125,19 +126,32 @@ fn finish(line: &[u8], body: &mut [u8], words: &mut [u32], out: &mut Out) -> Fee
 }
 
 // One block: reads once, and answers the lines that are whole then.
-fn turn(input: &mut [u8], feed: Feed, body: &mut [u8], words: &mut [u32], out: &mut Out) -> Feed {
+fn turn<R: Read>(
+    from: &mut R,
+    input: &mut [u8],
+    feed: Feed,
+    body: &mut [u8],
+    words: &mut [u32],
+    out: &mut Out,
+) -> io::Result<Feed> {
     let kept = feed.kept;
-    let end = read_more(input, kept);
+    let end = read_more(from, input, kept)?;
     if end <= kept {
-        return finish(&input[..end], body, words, out);
+        return Ok(finish(&input[..end], body, words, out));
     }
     let rest = answer_lines(&input[..end], kept, feed.dropping, body, words, out);
-    keep_rest(input, end, rest, out)
+    Ok(keep_rest(input, end, rest, out))
 }
 
-// Answers every line of standard input. A proved loop has to end, and nothing says that an input does: so the loop counts its turns down,
-// from a number that no run uses up.
-pub fn serve(input: &mut [u8], body: &mut [u8], words: &mut [u32], out: &mut Out) {
+// Answers every line that a reader has. Ends at the first read or write that fails, with its error. A proved loop has to end, and nothing says that
+// an input does: so the loop counts its turns down, from a number that no run uses up.
+pub fn serve<R: Read>(
+    from: &mut R,
+    input: &mut [u8],
+    body: &mut [u8],
+    words: &mut [u32],
+    out: &mut Out,
+) -> io::Result<()> {
     let mut feed = Feed {
         kept: 0,
         dropping: false,
@@ -145,7 +159,9 @@ pub fn serve(input: &mut [u8], body: &mut [u8], words: &mut [u32], out: &mut Out
     };
     let mut turns = u64::MAX;
     while 0 < turns && !feed.ended {
-        feed = turn(input, feed, body, words, out);
+        feed = turn(from, input, feed, body, words, out)?;
+        out.result()?;
         turns -= 1;
     }
+    Ok(())
 }

@@ -10,6 +10,7 @@
 //
 // All memory is the four arrays of `main`: functions borrow them, and hand on numbers by value.
 #![tactic(auto)]
+
 ghost use Rattle.std.specs.Prelude.{◌≡◌, length};
 
 mod answer;
@@ -33,6 +34,9 @@ mod ti;
 mod writer;
 mod zts;
 
+use std::io;
+use writer::Out;
+
 // Room for a block of input: the longest line that is kept and three quarters of a megabyte more.
 fn block_room() -> [u8; 1048576]
     ensures { 1048576 ≡ length result }
@@ -54,10 +58,10 @@ fn words_room() -> [u32; 150000]
     [0; 150000]
 }
 
-fn main() {
+fn main(rt: HostRuntime) -> io::Result<()> {
     let mut input = block_room();
     let mut body = body_room();
     let mut words = words_room();
-    let mut out = io::large_buffer();
-    lines::serve(&mut input, &mut body, &mut words, &mut out);
+    let mut out = Out::new(rt.stdout());
+    lines::serve(&mut rt.stdin(), &mut input, &mut body, &mut words, &mut out)
 }

@@ -1,22 +1,53 @@
-// Writes into a buffer `out`, of which the first `at` bytes wait to be written. Each function takes `at` and answers the new one. Where the
+// Writes into a buffer, of which the first `at` bytes wait to be written out. Each function takes `at` and answers the new one. Where the
 // buffer is full it is written out first, so an answer may be longer than the buffer.
-pub type Out = [u8; 65536];
+use itoa::Buffer;
+use std::io;
+use std::io::{Stdout, Write};
+
+// The buffer, and where it is written out to. The error of the first write that failed is kept, and nothing is written out from there on.
+#[derive(Drop)]
+pub struct Out {
+    waiting: [u8; 65536],
+    to: Stdout,
+    error: Option<io::Error>,
+}
+
+impl Out {
+    pub fn new(to: Stdout) -> Out {
+        Out {
+            waiting: [0; 65536],
+            to,
+            error: None,
+        }
+    }
+
+    // The error of the first write that failed, if one did.
+    pub fn result(&self) -> io::Result<()> {
+        match self.error {
+            Some(error) => Err(error),
+            None => Ok(()),
+        }
+    }
+}
 
 // Writes out what waits. Answers that nothing does.
-pub fn flush(out: &[u8], at: usize) -> usize {
-    if at <= out.len() {
-        io::write_all(1, &out[..at]);
+pub fn flush(out: &mut Out, at: usize) -> usize {
+    if at <= 65536 && out.error.is_none() {
+        match out.to.write_all(&out.waiting[..at]) {
+            Ok(()) => {}
+            Err(error) => out.error = Some(error),
+        }
     }
     0
 }
 
 pub fn byte(out: &mut Out, at: usize, b: u8) -> usize {
     if at < 65536 {
-        out[at] = b;
+        out.waiting[at] = b;
         return at + 1;
     }
     flush(out, at);
-    out[0] = b;
+    out.waiting[0] = b;
     1
 }
 
@@ -31,9 +62,8 @@ pub fn literal(out: &mut Out, at: usize, text: &[u8]) -> usize {
 }
 
 pub fn decimal(out: &mut Out, at: usize, n: u64) -> usize {
-    let mut spelled = [0u8; 20];
-    let k = io::decimal(n, &mut spelled);
-    literal(out, at, &spelled[..k])
+    let mut spelled = Buffer::new();
+    literal(out, at, spelled.format(n).as_bytes())
 }
 
 // A number in decimal by two's complement, with a `-` before it where it is negative.
@@ -42,7 +72,7 @@ pub fn signed(out: &mut Out, at: usize, n: u64) -> usize {
         return decimal(out, at, n);
     }
     let minus = byte(out, at, b'-');
-    decimal(out, minus, std::num::wrapping_sub_u64(0, n))
+    decimal(out, minus, n.wrapping_neg())
 }
 
 // A character and a number in decimal.
@@ -57,17 +87,30 @@ pub fn labelled(out: &mut Out, at: usize, label: &[u8], n: u64) -> usize {
     decimal(out, next, n)
 }
 
-// A number in hex, with zeros in front up to `width` digits (16 at most).
-pub fn hex_number(out: &mut Out, at: usize, n: u64, width: usize) -> usize {
-    let mut spelled = [0u8; 16];
-    let k = io::hex(n, width, &mut spelled);
-    literal(out, at, &spelled[..k])
+// How many hex digits a number takes: 1 at least.
+fn hex_len(n: u64) -> usize {
+    if n == 0 {
+        1
+    } else {
+        n.ilog2() as usize / 4 + 1
+    }
 }
 
-// The hex digit of a byte's last four bits.
-fn hex_digit(b: u8) -> u8 {
-    let d = b % 16;
+// The hex digit of a number's last four bits.
+fn hex_digit(n: u64) -> u8 {
+    let d = (n % 16) as u8;
     if d < 10 { b'0' + d } else { b'a' - 10 + d }
+}
+
+// A number in hex, with zeros in front up to `width` digits (16 at most).
+pub fn hex_number(out: &mut Out, at: usize, n: u64, width: usize) -> usize {
+    let mut next = at;
+    let mut left = hex_len(n).max(width).min(16);
+    while 0 < left {
+        left -= 1;
+        next = byte(out, next, hex_digit(n >> (4 * left)));
+    }
+    next
 }
 
 // The `len` bytes at `start` in hex, two digits each. What lies behind the end is left out.
@@ -76,8 +119,8 @@ pub fn hex_bytes(out: &mut Out, at: usize, s: &[u8], start: usize, len: usize) -
     let mut i = start;
     let mut left = len;
     while 0 < left && i < s.len() {
-        next = byte(out, next, hex_digit(s[i] / 16));
-        next = byte(out, next, hex_digit(s[i]));
+        next = byte(out, next, hex_digit(u64::from(s[i] / 16)));
+        next = byte(out, next, hex_digit(u64::from(s[i])));
         i += 1;
         left -= 1;
     }

@@ -1,7 +1,8 @@
 // The rewriting program: writes the filter on standard input without its retired fields to standard output, and what it removed to standard error.
 #![tactic(auto)]
-use libc::{STDERR_FILENO, STDOUT_FILENO};
 
-fn main() {
-    rewritten::rewrite(0, STDOUT_FILENO, STDERR_FILENO);
+use std::io;
+
+fn main(rt: HostRuntime) -> io::Result<()> {
+    rewritten::rewrite(&mut rt.stdin(), &mut rt.stdout(), &mut rt.stderr())
 }

@@ -14,36 +14,34 @@
 // large.filter     bad: 65,536 bytes
 // missing.filter   a file that isn't there
 #![tactic(auto)]
-use libc::STDOUT_FILENO;
 
-fn close(fd: i32) {
-    if 0 <= fd {
-        libc::close(fd);
-    }
-}
+use std::io::Write;
+use std::{fs, io};
 
 // The name, what is left and what was removed, and a line's end.
-fn stored(path: &[u8]) {
-    io::write_all(STDOUT_FILENO, path);
-    io::write_all(STDOUT_FILENO, b"\n");
-    let fd = os::open_read(path);
-    rewritten::rewrite(fd, STDOUT_FILENO, STDOUT_FILENO);
-    close(fd);
-    io::write_all(STDOUT_FILENO, b"\n");
+fn stored(rt: &HostRuntime, path: &str) -> io::Result<()> {
+    let mut out = rt.stdout();
+    out.write_all(path.as_bytes())?;
+    out.write_all(b"\n")?;
+    match fs::open(rt, path) {
+        Ok(mut file) => rewritten::rewrite(&mut file, &mut rt.stdout(), &mut out)?,
+        Err(_) => rewritten::unreadable(&mut out)?,
+    }
+    out.write_all(b"\n")
 }
 
-fn main() {
-    stored(b"empty.filter");
-    stored(b"plain.filter");
-    stored(b"both.filter");
-    stored(b"apps.filter");
-    stored(b"contexts.filter");
-    stored(b"counts.filter");
-    stored(b"order.filter");
-    stored(b"short.filter");
-    stored(b"most.filter");
-    stored(b"over.filter");
-    stored(b"full.filter");
-    stored(b"large.filter");
-    stored(b"missing.filter");
+fn main(rt: HostRuntime) -> io::Result<()> {
+    stored(&rt, "empty.filter")?;
+    stored(&rt, "plain.filter")?;
+    stored(&rt, "both.filter")?;
+    stored(&rt, "apps.filter")?;
+    stored(&rt, "contexts.filter")?;
+    stored(&rt, "counts.filter")?;
+    stored(&rt, "order.filter")?;
+    stored(&rt, "short.filter")?;
+    stored(&rt, "most.filter")?;
+    stored(&rt, "over.filter")?;
+    stored(&rt, "full.filter")?;
+    stored(&rt, "large.filter")?;
+    stored(&rt, "missing.filter")
 }

@@ -1,0 +1,3 @@
+-- The crate's own lemmas.
+pub mod Rows
+pub mod Whole

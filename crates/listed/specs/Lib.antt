@@ -1,0 +1,3 @@
+-- What is read, and what is printed of it.
+pub mod Gathered
+pub mod Listing

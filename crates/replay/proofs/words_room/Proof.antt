@@ -1,8 +1,0 @@
--- `replay::words_room` meets its contract: a repeat is as long as it says. The law and not a computation shows it, since the list is long.
--- Assumes nothing.
-use Rattle.replay.proofs.Long.{long}
-use Rattle.replay.proofs.words_room.Statement.{statement}
-use Rattle.replay.proofs.words_room.Tie as tie
-
-pub words_room_spec : {M : Type 1} → statement M
-words_room_spec = tie.close (tie.spec (λ c. long 150000 0))

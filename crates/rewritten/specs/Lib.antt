@@ -1,0 +1,3 @@
+-- What is read, and what is written of it.
+pub mod Gathered
+pub mod Written
