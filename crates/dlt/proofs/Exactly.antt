@@ -1,17 +1,16 @@
 -- Exactly the acceptable words are accepted, by a test that computes at every kind, length and fixed-point bit.
 -- Assumes nothing.
-use Prim.Native.Nat.{ℕ, ◌+◌, ◌*◌, ◌/◌, ◌%◌, ◌<◌}
+use Prim.Native.Nat.{ℕ, ◌*◌, ◌/◌, ◌%◌, ◌<◌}
 use native.Mathlib.Omega.{arith}
 use native.Mathlib.Nat.{div-div-eq-div-mul}
 use mathlib.Core.Path.{◌≡◌, refl, sym, ap, ◌∙◌}
 use mathlib.Core.Bool.{Bool, true, false}
-use lib.Dec.{eqb}
 use Rattle.wire.specs.Answer.Ans.{hickup}
-use Rattle.wire.specs.Parser.{pick}
-use Rattle.headertype.specs.Bits.{bit, flag, both, either, from_to}
+use Rattle.headertype.specs.Bits.{bit, flag}
 use Rattle.dlt.specs.TypeInfoWord.{type_length_of, float_width_of, signed_of, unsigned_of, float_of, kind_by, kind_of, decoded_of, type_info_of_lem, decoded_ans}
 use Rattle.dlt.specs.Accepted.{accepted, acceptable}
 use Rattle.headertype.proofs.Every.{same, same_is, every_two}
+use Rattle.dlt.proofs.Fitting.{fits}
 use Rattle.dlt.specs.declared.OptKind.{OptKind}
 use Rattle.dlt.specs.declared.Decoded.{Decoded}
 
@@ -19,13 +18,6 @@ use Rattle.dlt.specs.declared.Decoded.{Decoded}
 abbrev pub known : OptKind → Bool
 known (OptKind.Present k) = true
 known OptKind.Absent = false
-
-abbrev fits : ℕ → ℕ → Bool → Bool
-fits k l f =
-    both (eqb (k % 2 + k / 2 % 2 + k / 4 % 2 + k / 8 % 2 + k / 32 % 2 + k / 64 % 2) 1)
-    (both (eqb (k / 16 % 2) 0)
-    (pick (either (eqb (k / 2 % 2) 1) (eqb (k / 4 % 2) 1)) (pick f (from_to 3 4 l) (from_to 1 5 l))
-    (pick (eqb (k / 8 % 2) 1) (from_to 3 4 l) true)))
 
 abbrev right : Bool → ℕ → ℕ → Bool
 right f k l = same (known (kind_by k l f)) (fits k l f)

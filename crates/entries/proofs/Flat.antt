@@ -13,7 +13,8 @@ use borrow.Author.Tests.{ltb-true, ltb-false}
 use Rattle.table.specs.Over.{over}
 use Rattle.walk.specs.Walk.{Entry as Found, Out}
 use Rattle.walk.specs.Table.{flat}
-use Rattle.walk.proofs.Laws.{walked, counts}
+use Rattle.walk.proofs.Cases.{walked}
+use Rattle.walk.proofs.Laws.{counts}
 use Rattle.walk.proofs.Going.{ended, flat_length}
 use Rattle.filter.specs.Filter.{filter_of}
 use Rattle.filter.specs.declared.Filter.{Filter}

@@ -1,5 +1,5 @@
 -- The trace index over a lent slice of entry structs: how entries lie in its table. The call is index's `call` at this form.
-use Rattle.std.specs.Prelude.{ℕ, List, [], ◌∷◌}
+use Rattle.std.specs.Prelude.{ℕ, [], ◌∷◌}
 use Rattle.walk.specs.Walk.{Entry as Found}
 use Rattle.index.specs.Index.{Form}
 use Rattle.entries.specs.declared.Entry.{Entry}

@@ -17,7 +17,6 @@ use Rattle.headers.specs.Standard.{standard}
 use Rattle.headers.specs.Extended.{extended}
 use Rattle.headers.proofs.Laws.{standard_law, extended_law}
 use Rattle.headers.proofs.Inverse.{split, of_ret, ecu_inside, ids_inside}
-use Rattle.storage.specs.Storage.{storage}
 use Rattle.storage.specs.declared.OptStored.{OptStored}
 use Rattle.storage.proofs.Laws.{storage_law}
 use Rattle.filter.specs.declared.Filter.{Filter}

@@ -15,8 +15,8 @@ use Rattle.mark.specs.First.{find, first_of_lem, stands_at_of}
 use Rattle.headertype.specs.HeaderType.{all_headers, overall_length_of, header_type_byte_of}
 use Rattle.headers.specs.Standard.{maybe_id, maybe_number_of, endian_of, header_of_lem, flagged, standard}
 use Rattle.headers.specs.Extended.{extended_of_lem, named, extended}
-use Rattle.messageinfo.specs.MessageInfo.{known_level, log_level_of, message_type_by, control_of, network_trace_of, application_trace_of}
-use Rattle.storage.specs.Storage.{marked, storage, stored, owned, stored_of}
+use Rattle.messageinfo.specs.MessageInfo.{known_level, log_level_of, message_type_by}
+use Rattle.storage.specs.Storage.{marked, storage, stored, owned}
 use Rattle.filter.specs.Filter.{filter_of, fields, wanted, counts, field, tag_next, ending}
 use Rattle.filtering.specs.FilteredOut.{filtered_out_of, drops_extended_of, drops_level_of, drops_id_of, drops_ecu_of}
 use Rattle.payload.specs.Payload.{is_verbose_of, count_of, control_type_of, network_type_of, is_control_of, is_network_of, list_of, verbose, control, plain, payload}

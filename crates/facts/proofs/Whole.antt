@@ -2,8 +2,8 @@
 use Prim.Native.Nat.{ℕ, ◌<◌}
 use native.Mathlib.Omega.{arith}
 use mathlib.Core.Path.{◌≡◌, refl, sym, ap, ◌∙◌}
-use mathlib.Core.Bool.{Bool, true, false}
-use mathlib.Core.List.{List, [], ◌∷◌, ◌++◌}
+use mathlib.Core.Bool.{Bool, false}
+use mathlib.Core.List.{List, [], ◌++◌}
 use lib.ListN.{length}
 use Rattle.wire.specs.Answer.{Ans, Carried, Numbered, numbered}
 use Rattle.filter.specs.Filter.{filter_of}

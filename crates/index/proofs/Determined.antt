@@ -1,5 +1,4 @@
 -- The contract fixes the answer and the table. Assumes nothing.
-use Prim.Native.Nat.{ℕ}
 use mathlib.Core.Path.{◌≡◌, sym, ap, ◌∙◌}
 use mathlib.Core.List.{List}
 use Rattle.index.specs.Index.{Outcome}

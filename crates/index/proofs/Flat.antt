@@ -1,19 +1,19 @@
 -- Of the flat table: it is a sound form; and from a fresh state, skipped bytes and lengths over all entries add up to the resume position. That is said
 -- of the table itself, so that it holds over any number of calls: a call keeps it, and of the fresh state it is true. Assumes nothing.
-use Prim.Native.Nat.{ℕ, zero, suc, ◌+◌, ◌-◌, ◌*◌, ◌/◌, ◌≤◌, ◌<◌}
+use Prim.Native.Nat.{ℕ, zero, suc, ◌+◌, ◌-◌, ◌*◌, ◌/◌, ◌≤◌}
 use mathlib.Core.Path.{◌≡◌, refl, sym, ap, ◌∙◌}
 use mathlib.Core.List.{List, [], ◌∷◌, ◌++◌}
 use native.Mathlib.Nat.{zero-add, suc-add}
 use native.Mathlib.Omega.{arith}
-use lib.ListN.{length, get_or, take, drop, take-append-drop}
+use lib.ListN.{length, take, drop, take-append-drop}
 use lib.Seq.{drop_at, drop-drop, length-take-le}
 use Rattle.table.specs.Over.{over}
 use Rattle.walk.specs.Walk.{Entry, spans}
 use Rattle.walk.specs.Table.{flat}
-use Rattle.walk.proofs.Laws.{walked, adds_up}
-use Rattle.filter.specs.declared.Filter.{Filter}
+use Rattle.walk.proofs.Cases.{walked}
+use Rattle.walk.proofs.Laws.{adds_up}
 use Rattle.step.specs.Step.{asked}
-use Rattle.index.specs.Index.{limit, Sound, flat_form, walk_of, outcome}
+use Rattle.index.specs.Index.{Sound, flat_form, walk_of, outcome}
 use Rattle.index.specs.Calls.{fresh, totals}
 use Rattle.index.specs.declared.State.{State}
 use Rattle.index.proofs.Promises.{Came, no, long, yes, came, ahead_so}

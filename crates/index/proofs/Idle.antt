@@ -1,10 +1,10 @@
 -- Document 01's trace of 45 bytes, computed; and the idle indexes that the contract shuts out: one that writes nothing, one that works in the first call
 -- and later hands back the old state, one that invents needs or skipped bytes. Assumes nothing.
-use Prim.Native.Nat.{ℕ, ◌+◌}
+use Prim.Native.Nat.{ℕ}
 use mathlib.Core.Path.{◌≡◌, refl, sym, ap, ◌∙◌}
 use mathlib.Core.List.{List, [], ◌∷◌, ◌++◌}
 use native.Mathlib.Omega.{arith}
-use lib.ListN.{length, take, drop, replicate, get_or}
+use lib.ListN.{replicate, get_or}
 use Rattle.wire.specs.Parser.{◌>>=◌, ret, here, refuse, fail, choose, asking, having, fixed, times}
 use Rattle.wire.specs.Number.{number, number_of, numeric}
 use Rattle.wire.specs.Run.{bytes}

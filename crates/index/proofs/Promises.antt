@@ -36,7 +36,8 @@ use Rattle.table.proofs.Laws.{over_none, over_length, over_before, over_behind}
 use Rattle.walk.specs.Walk.{Entry, Wait, Take, Ends, Waits, Out, stop, after, turn, run, walk}
 use Rattle.walk.specs.Walk as walking
 use Rattle.walk.specs.Table.{flat, finish}
-use Rattle.walk.proofs.Laws.{walked, adds_up, counts, bounds, enough, waits_at}
+use Rattle.walk.proofs.Cases.{walked}
+use Rattle.walk.proofs.Laws.{adds_up, counts, bounds, enough, waits_at}
 use Rattle.walk.proofs.Calls.{demand3}
 use Rattle.walk.proofs.Calls as walks
 use Rattle.walk.proofs.Going.{flat_length, finish_after}

@@ -13,12 +13,11 @@ use lib.Dec.{ltb}
 use borrow.Author.Tests.{ltb-true, ltb-false}
 use Rattle.table.specs.Over.{over}
 use Rattle.table.proofs.Laws.{over_length, over_upto}
-use Rattle.walk.specs.Walk.{Out}
 use Rattle.walk.specs.Table.{flat}
 use Rattle.filter.specs.Filter.{filter_of}
 use Rattle.filter.specs.declared.Filter.{Filter}
 use Rattle.filter.specs.declared.FilterAns.{FilterAns}
-use Rattle.index.specs.Index.{limit, Form, Sound, Outcome, refused, laid, walk_of, call}
+use Rattle.index.specs.Index.{limit, Form, Sound, refused, laid, walk_of, call}
 use Rattle.index.specs.Calls.{unlimited, whole, adding, SameEntries, Alike}
 use Rattle.index.specs.declared.State.{State}
 use Rattle.index.specs.declared.End.{End}

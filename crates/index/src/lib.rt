@@ -1,6 +1,7 @@
 // The trace index: the call over a lent flat table, four numbers to an entry. The caller owns the bytes and the table; the call is given the bytes
 // from the resume position on, stops after n entries if it doesn't end before, and hands back where the next call goes on.
 #![tactic(auto)]
+
 ghost use Rattle.std.specs.Prelude.{◌≡◌, [], ◌∷◌, ◌+◌, ◌*◌, ◌/◌, ◌≤◌, length, drop, ltb};
 ghost use Rattle.table.specs.Over.{over};
 ghost use Rattle.step.specs.Step.{asked, step_of};

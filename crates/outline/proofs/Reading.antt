@@ -1,12 +1,11 @@
 -- What `search` is handed for the functions of this crate. Assumes nothing.
 use Prim.Native.Nat.{ℕ, ◌+◌, ◌-◌, ◌≤◌, ◌<◌}
 use native.Mathlib.Omega.{arith}
-use mathlib.Core.Path.{◌≡◌, refl, sym, ap, ◌∙◌}
-use mathlib.Core.Bool.{Bool, true, false}
+use mathlib.Core.Path.{◌≡◌, sym, ap, ◌∙◌}
+use mathlib.Core.Bool.{true}
 use mathlib.Core.List.{List}
 use lib.ListN.{length}
 use borrow.Author.Tests.{le-leb, lt-leb}
-use Rattle.wire.specs.Answer.Ans.{done, need}
 use Rattle.wire.specs.Number.{number_of, number, u8_ans, u16_ans}
 use Rattle.wire.specs.declared.U8Ans.{U8Ans}
 use Rattle.wire.specs.declared.U16Ans.{U16Ans}
@@ -17,9 +16,8 @@ use Rattle.mark.specs.First.{pattern, find}
 use Rattle.mark.specs.declared.Found.{Found}
 use Rattle.headertype.specs.HeaderType.{all_headers}
 use Rattle.headers.proofs.Inverse.{same_value, no_need}
-use Rattle.outline.specs.There.{type_at, length_at}
-use Rattle.outline.specs.Outline.{tested, outline_from, outline_of}
-use Rattle.outline.specs.declared.Outline.{Outline}
+use Rattle.outline.specs.There.{length_at}
+use Rattle.outline.specs.Outline.{tested, outline_of}
 use Rattle.outline.specs.declared.OutlineAns.{OutlineAns}
 use Rattle.outline.proofs.There.{number_there}
 

@@ -3,15 +3,15 @@
 use Prim.Native.Nat.{ℕ, ◌+◌, ◌-◌, ◌*◌, ◌≤◌, ◌<◌}
 use native.Mathlib.Omega.{arith}
 use native.Mathlib.Nat.{sub-zero}
-use mathlib.Core.Path.{◌≡◌, refl, sym, ap, ◌∙◌}
+use mathlib.Core.Path.{◌≡◌, refl, ap, ◌∙◌}
 use mathlib.Core.Bool.{Bool, true, false}
 use mathlib.Core.List.{List}
 use lib.ListN.{length, get_or}
 use lib.Dec.{leb}
 use borrow.Author.Tests.{le-leb, lt-leb}
-use Rattle.wire.specs.Answer.{Ans, Parser}
-use Rattle.wire.specs.Answer.Ans.{done, need, hickup, broken}
-use Rattle.wire.specs.Parser.{pick, ret, refuse, choose, here, lacking, ◌>>=◌}
+use Rattle.wire.specs.Answer.{Parser}
+use Rattle.wire.specs.Answer.Ans.{done, hickup}
+use Rattle.wire.specs.Parser.{pick, ret, refuse, choose, here, ◌>>=◌}
 use Rattle.wire.specs.Number.{number_of, number}
 use Rattle.wire.specs.Run.{range, bytes}
 use Rattle.wire.proofs.Step.{step, then_done, then_hickup, fixed_done, asking_done, ret_is, here_is, refuse_is, choose_true, choose_false}
@@ -19,7 +19,7 @@ use Rattle.strings.specs.Text.{ended_text, text_need, text, identified}
 use Rattle.mark.specs.First.{pattern, find}
 use Rattle.mark.specs.declared.Found.{Found}
 use Rattle.headertype.specs.Bits.{bit, flag, one_if_of}
-use Rattle.headertype.specs.HeaderType.{big_bit_of, text_bit_of, num_bit_of, standard_length, all_headers, overall_length_of}
+use Rattle.headertype.specs.HeaderType.{big_bit_of, text_bit_of, num_bit_of, all_headers, overall_length_of}
 use Rattle.headertype.specs.declared.Endianness.{Endianness}
 use Rattle.headertype.specs.declared.OptNum.{OptNum}
 use Rattle.headertype.specs.declared.OptText.{OptText}
@@ -27,13 +27,12 @@ use Rattle.headertype.specs.declared.StandardHeader.{StandardHeader}
 use Rattle.headertype.proofs.Again.{overall}
 use Rattle.headertype.proofs.Lengths.{one_bit}
 use Rattle.headers.specs.Standard.{maybe_id, maybe_number_of, endian_of, header_of_lem, flagged, standard}
-use Rattle.headers.specs.Extended.{extended_of_lem, named, extended}
-use Rattle.storage.specs.Storage.{from_mark, marked, stored_of, owned, stored, storage}
+use Rattle.headers.specs.Extended.{named, extended}
+use Rattle.storage.specs.Storage.{marked, owned, stored, storage}
 use Rattle.storage.specs.declared.OptStored.{OptStored}
 use Rattle.filter.specs.declared.Filter.{Filter}
 use Rattle.filtering.specs.declared.OptExtended.{OptExtended}
 use Rattle.parse.specs.Message.{having_from, seen, maybe_extended_of, headers_of_lem, finished, headers, routed}
-use Rattle.parse.specs.declared.Headers.{Headers}
 use Rattle.outline.specs.There.{behind, id_if, number_if, type_at, counter_at, length_at, session_place, time_place, extended_place_of, ecu_at, session_at, time_at, standard_at, extended_at, extended_if, stored_at, headers_at}
 
 -- ---- fields that are there

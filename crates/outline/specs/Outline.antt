@@ -1,12 +1,11 @@
 -- A message at a glance: where 42 bytes stand from the pattern on (16 of the storage header, at most 16 and 10 behind it), what ends the reading of the
 -- headers early is told from the type byte and the declared length.
-use Rattle.std.specs.Prelude.{ℕ, ◌+◌, ◌-◌, Bool, true, false, List, length, leb}
+use Rattle.std.specs.Prelude.{ℕ, ◌+◌, ◌-◌, List, length, leb}
 use Rattle.wire.specs.Parser.{pick}
 use Rattle.mark.specs.First.{pattern, find}
 use Rattle.mark.specs.declared.Found.{Found}
 use Rattle.headertype.specs.HeaderType.{all_headers}
 use Rattle.outline.specs.There.{type_at, length_at}
-use Rattle.outline.specs.declared.Outline.{Outline}
 use Rattle.outline.specs.declared.OutlineAns.{OutlineAns}
 
 -- a declared length below all headers is Hickup 1; more bytes declared than are there are left to the full reading

@@ -1,5 +1,5 @@
 -- Document 01, "One message, step by step".
-use Rattle.std.specs.Prelude.{ℕ, ◌-◌, ◌≤◌, Bool, true, false, List, length, leb}
+use Rattle.std.specs.Prelude.{ℕ, ◌-◌, Bool, true, false, List, length, leb}
 use Rattle.wire.specs.Answer.{Ans, Parser, Numbered, numbered}
 use Rattle.wire.specs.Answer as wire
 use Rattle.wire.specs.Answer.Ans.{done, need, hickup, broken}

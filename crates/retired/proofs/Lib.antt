@@ -3,6 +3,7 @@ pub mod Cuts
 pub mod Shape
 pub mod Same
 pub mod Standing
+pub mod Cutting
 pub mod Rewriting
 pub mod Spelled
 pub mod Determined

@@ -1,3 +1,4 @@
+pub mod Cases
 pub mod Laws
 pub mod Calls
 pub mod Going

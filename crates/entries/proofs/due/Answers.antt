@@ -1,12 +1,9 @@
 -- `entries::due` meets its contract: each of its ends is a case of `turn_of`, and an entry that the rule says lies within the bytes.
-use Prim.Native.Nat.{ℕ, ◌+◌, ◌≤◌}
+use Prim.Native.Nat.{◌+◌, ◌≤◌}
 use mathlib.Core.Path.{◌≡◌, sym, ap, ◌∙◌}
-use mathlib.Core.List.{List}
 use native.Mathlib.Omega.{arith}
 use lib.ListN.{length, drop, length-drop}
-use borrow.Author.Rules.{rules}
 use Rattle.walk.specs.Walk.{Take}
-use Rattle.filter.specs.declared.Filter.{Filter}
 use Rattle.step.specs.Step.{asked, step_of}
 use Rattle.step.proofs.Fair.{fair}
 use Rattle.index.proofs.Laws.{tail_part}

@@ -1,6 +1,5 @@
 use mathlib.Core.Path.{sym, ◌∙◌}
 use native.Mathlib.Omega.{arith}
-use borrow.Author.Rules.{rules}
 use borrow.Author.Tests.{ltb-false}
 use Rattle.entries.proofs.Turns.{first_bad_filter, first_retired, first_bad_state, first_too_long, first_due}
 use Rattle.entries.proofs.first.Goals as goal

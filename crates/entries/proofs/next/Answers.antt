@@ -1,5 +1,3 @@
-use Rattle.std.proofs.Common.{arith}
-use borrow.Author.Rules.{rules}
 use Rattle.entries.specs.Turn.{next_of_lem}
 use Rattle.entries.proofs.next.Goals as goal
 

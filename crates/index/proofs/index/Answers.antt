@@ -1,6 +1,4 @@
-use Rattle.std.proofs.Common.{arith}
 use mathlib.Core.Path.{◌∙◌}
-use borrow.Author.Rules.{rules}
 use Rattle.index.specs.Index.{flat_form}
 use Rattle.index.proofs.Laws.{bad_filter_lem, retired_tag_lem, good_filter, with_answer}
 use Rattle.index.proofs.index.Goals as goal
@@ -19,4 +17,3 @@ pub returns-in-Bad : goal.returns-in-Bad
 returns-in-Bad c =
     bad_filter_lem flat_form _ _ _ _ _ _ c.read_filter.ensures c.in-Bad.is
     ∙ with_answer _ c.refuse-in-Bad.ensures
-

@@ -1,6 +1,5 @@
 use mathlib.Core.Path.{sym, ◌∙◌}
 use native.Mathlib.Omega.{arith}
-use borrow.Author.Rules.{rules}
 use borrow.Author.Tests.{ltb-false}
 use Rattle.index.specs.Index.{flat_form}
 use Rattle.index.proofs.Laws.{bad_state, too_long, goes_ahead, with_answer}
@@ -21,4 +20,3 @@ pub returns : goal.returns
 returns c =
     goes_ahead flat_form _ _ _ _ _ _ (omega arith) (sym c.too_long.ensures ∙ c.if-too_long.false)
     ∙ c.walk_on.ensures
-

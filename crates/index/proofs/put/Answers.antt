@@ -1,7 +1,6 @@
 use native.Mathlib.Omega.{arith}
 use lib.ListN.{length-set}
 use Rattle.index.proofs.Laws.{put_over}
-use borrow.Author.Rules.{rules}
 use Rattle.index.proofs.put.Goals as goal
 
 pub bounds-table-i-2 : goal.bounds-table-i-2
@@ -15,4 +14,3 @@ bounds-table-i-4 c = simp length-set (omega arith)
 
 pub returns : goal.returns
 returns c = put_over _ _ _ _ _ _ c.requires
-

@@ -1,4 +1,3 @@
-use Rattle.std.proofs.Common.{rules}
 use native.Mathlib.Omega.{arith}
 use Rattle.index.proofs.Laws.{split_sum, over_by_itself}
 use Rattle.index.proofs.too_long.Goals as goal
@@ -8,4 +7,3 @@ returns-then-from-gt4294967295 c = over_by_itself 4294967295 c.args.from c.args.
 
 pub returns : goal.returns
 returns c = split_sum 4294967295 c.args.from c.args.n (omega arith)
-

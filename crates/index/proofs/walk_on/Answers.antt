@@ -1,17 +1,14 @@
 -- `index::walk_on` meets its contract. The loop keeps what the call will leave (`Kept`): each need about the walk is one of the laws of walk's
-use Prim.Native.Nat.{ℕ, ◌+◌, ◌-◌, ◌≤◌}
+use Prim.Native.Nat.{◌+◌, ◌≤◌}
 use mathlib.Core.Path.{◌≡◌, refl, sym, ap, ◌∙◌}
-use mathlib.Core.List.{List}
 use native.Mathlib.Omega.{arith}
-use borrow.Author.Rules.{rules}
 use lib.ListN.{length, drop, length-drop}
 use Rattle.walk.specs.Walk.{Take}
 use Rattle.walk.proofs.Going.{ends_waiting, ends_full, ends_paused}
-use Rattle.filter.specs.declared.Filter.{Filter}
 use Rattle.step.specs.Step.{asked, step_of}
 use Rattle.step.proofs.Fair.{fair}
 use Rattle.index.specs.Index.{flat_form}
-use Rattle.index.proofs.Laws.{Kept, starts, turns, no_turn, turned, ends_so, with_answer}
+use Rattle.index.proofs.Laws.{starts, turns, no_turn, turned, ends_so, with_answer}
 use Rattle.index.proofs.Flat.{flat_sound}
 use Rattle.index.proofs.walk_on.Goals as goal
 use Rattle.index.proofs.walk_on.Goals.{In-Take}
@@ -78,4 +75,3 @@ returns c =
     (ends_paused 4 flat_form.cells (λ e. refl) (asked _ _) (fair _ _) _ _ _ _ _ _ (no_turn flat_form _ _ _ _ _ _ _ _ kept (omega arith)))
     kept.counted
     ∙ with_answer _ c.paused.ensures
-

@@ -10,4 +10,3 @@ invariant-loop-taken l = Kept flat_form l.f l.filter l.n l.s l.size l.from l.ini
 
 abbrev pub decreases-loop-taken : goal.decreases-loop-taken
 decreases-loop-taken l = length l.s - l.at
-

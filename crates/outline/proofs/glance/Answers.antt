@@ -1,6 +1,4 @@
 -- `outline::glance` meets its contract: `search` goes through the rule as the code does.
-use Rattle.std.proofs.Common.{arith}
-use borrow.Author.Rules.{rules}
 use Rattle.outline.proofs.Reading.{glancing}
 use Rattle.outline.proofs.glance.Goals as goal
 
@@ -15,4 +13,3 @@ returns-then-s-lt16 c = search glancing depth 20
 
 pub returns-else-s-lt16 : goal.returns-else-s-lt16
 returns-else-s-lt16 c = search glancing depth 20
-

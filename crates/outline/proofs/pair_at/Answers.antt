@@ -1,6 +1,4 @@
 -- `outline::pair_at` meets its contract: `search` goes through the rule as the code does.
-use Rattle.std.proofs.Common.{arith}
-use borrow.Author.Rules.{rules}
 use Rattle.outline.proofs.Reading.{glancing}
 use Rattle.outline.proofs.pair_at.Goals as goal
 
@@ -9,4 +7,3 @@ returns-in-Done c = search glancing depth 20
 
 pub returns-in-Need : goal.returns-in-Need
 returns-in-Need c = search glancing depth 20
-

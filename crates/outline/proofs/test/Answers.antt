@@ -1,6 +1,4 @@
 -- `outline::test` meets its contract: `search` goes through the rule as the code does.
-use Rattle.std.proofs.Common.{arith}
-use borrow.Author.Rules.{rules}
 use Rattle.outline.proofs.Reading.{glancing}
 use Rattle.outline.proofs.test.Goals as goal
 
@@ -12,4 +10,3 @@ returns-then-rest-declared c = search glancing depth 20
 
 pub returns : goal.returns
 returns c = search glancing depth 20
-
