@@ -1,3 +1,2 @@
--- The crate's own lemmas. Assumes nothing.
-pub mod Counted
+-- The crate's own lemma.
 pub mod Long

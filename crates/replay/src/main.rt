@@ -8,7 +8,7 @@
 // - fields, digits: the words of a line, and the numbers and bytes in them.
 // - writer: text, numbers and bytes into a buffer that is written out whenever it is full.
 //
-// All memory is the four arrays of `main`: functions borrow them, and hand on numbers by value.
+// All memory is three arrays of `main` and the buffer that `writer::Out` holds there: functions borrow them, and hand on numbers by value.
 #![tactic(auto)]
 
 ghost use Rattle.std.specs.Prelude.{◌≡◌, length};
