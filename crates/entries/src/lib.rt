@@ -3,6 +3,7 @@
 // All that is decided is decided in functions over values: `first` and `next` say what is due, as a `Turn`. The loop of `index_entries`
 // tests one bool, stores one entry and asks for the next turn.
 #![tactic(auto)]
+
 ghost use Rattle.std.specs.Prelude.{◌≡◌, ◌+◌, ◌≤◌, length, drop};
 ghost use Rattle.step.specs.Step.{asked};
 ghost use Rattle.index.specs.Index.{limit, call};

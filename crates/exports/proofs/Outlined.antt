@@ -18,10 +18,9 @@ use Rattle.wire.proofs.Step as wire
 use Rattle.wire.proofs.Step.{step, then_done, then_need, then_hickup, fixed_done, ret_is, here_is, fail_is, choose_true, choose_false}
 use Rattle.headertype.specs.Bits.{flag}
 use Rattle.headertype.specs.HeaderType.{all_headers}
-use Rattle.headertype.specs.declared.Endianness.{Endianness}
 use Rattle.messageinfo.specs.MessageInfo.{message_type_by, control_of}
 use Rattle.messageinfo.specs.declared.ControlType.{ControlType}
-use Rattle.headers.specs.Standard.{endian_of, header_of_lem}
+use Rattle.headers.specs.Standard.{header_of_lem}
 use Rattle.headers.specs.Extended.{extended_of_lem}
 use Rattle.headers.proofs.Inverse.{same_value}
 use Rattle.filter.specs.declared.Filter.{Filter}
@@ -29,7 +28,7 @@ use Rattle.filtering.specs.declared.OptExtended.{OptExtended}
 use Rattle.cursor.specs.Cursor.{arguments, cursor, pass_ans}
 use Rattle.cursor.specs.Raw.{raw_cursor}
 use Rattle.cursor.specs.declared.PassAns.{PassAns}
-use Rattle.payload.specs.Payload.{is_verbose_of, count_of, is_network_of, is_control_of, control_type_of, network_type_of, list_of, verbose, control, plain, payload}
+use Rattle.payload.specs.Payload.{is_verbose_of, count_of, is_network_of, is_control_of, network_type_of, list_of, verbose, control, plain, payload}
 use Rattle.payload.specs.declared.PayloadContent.{PayloadContent}
 use Rattle.parse.specs.Message as parse
 use Rattle.parse.specs.Message.{routed, passed, item, body, message, is_big_of, item_of, headers_of_lem}
@@ -46,7 +45,7 @@ use Rattle.verdict.specs.Drops.{drops_outline}
 use Rattle.verdict.proofs.Said.{outline_passed, verdict_said}
 use Rattle.numbers.specs.Layout.{message_laid}
 use Rattle.numbers.specs.Outlined.{outlined_item, outlined_laid}
-use Rattle.exports.specs.Calls.{Outcome, told, message_shown}
+use Rattle.exports.specs.Calls.{Outcome, message_shown}
 use Rattle.exports.specs.Outlined.{outlined_shown, outlined_payload, dropped_shown}
 use Rattle.exports.specs.declared.Answer.{Answer}
 use Rattle.exports.proofs.Reading.{numbers, left}

@@ -1,12 +1,12 @@
 -- The lemmas of the calls, for `search`: a is the answer that was made, X what the lent slice has at the end. Assumes nothing.
 use Prim.Native.Nat.{ℕ, ◌≤◌, ◌<◌}
-use mathlib.Core.Path.{◌≡◌, refl, sym, ap, ◌∙◌}
+use mathlib.Core.Path.{◌≡◌, sym, ap, ◌∙◌}
 use mathlib.Core.Bool.{Bool, true, false}
 use mathlib.Core.List.{List}
 use lib.ListN.{length}
 use borrow.Author.Tests.{le-leb, lt-leb}
 use Rattle.wire.specs.Answer.{Ans}
-use Rattle.wire.specs.Answer.Ans.{done, need, hickup, broken}
+use Rattle.wire.specs.Answer.Ans.{done, need, hickup}
 use Rattle.mark.specs.declared.Found.{Found}
 use Rattle.storage.specs.Consume.{consume_ans}
 use Rattle.storage.specs.declared.ConsumeAns.{ConsumeAns}
@@ -52,7 +52,7 @@ use Rattle.numbers.specs.Arguments.{argument_laid}
 use Rattle.numbers.specs.Raw.{raw_laid}
 use Rattle.index.specs.Index.{number_of, need_of, outcome}
 use Rattle.index.specs.declared.Indexed.{Indexed}
-use Rattle.exports.specs.Calls.{Outcome, told, message_shown, message_call, turn_shown, argument_call, raw_shown, raw_call, signal_shown, signal_call, IndexOutcome, index_shown, index_call, found_answer, consume_answer, construct_answer}
+use Rattle.exports.specs.Calls.{Outcome, message_shown, message_call, turn_shown, argument_call, raw_shown, raw_call, signal_shown, signal_call, index_shown, index_call, found_answer, consume_answer, construct_answer}
 use Rattle.exports.specs.declared.Answer.{Answer}
 
 abbrev pub numbers : ℕ → ℕ → ℕ → Answer

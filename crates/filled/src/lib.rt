@@ -2,6 +2,7 @@
 //
 // All that `index_own` does is lend the table to `entries::index_entries`.
 #![tactic(auto)]
+
 ghost use Rattle.std.specs.Prelude.{◌≡◌, replicate};
 ghost use Rattle.index.specs.Index.{call};
 ghost use Rattle.entries.specs.Form.{entry_form};

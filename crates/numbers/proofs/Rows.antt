@@ -1,7 +1,6 @@
 -- Stores in a row as the code writes them, and groups of numbers behind one another. Assumes nothing.
 use Prim.Native.Nat.{ℕ, ◌+◌, ◌≤◌, ◌<◌}
-use mathlib.Core.Path.{◌≡◌, refl, sym, ap, ◌∙◌}
-use mathlib.Core.Bool.{Bool, true, false}
+use mathlib.Core.Path.{◌≡◌, refl, ◌∙◌}
 use mathlib.Core.List.{List, [], ◌∷◌, ◌++◌}
 use native.Mathlib.Numerals.{add-one, add-two, add-three, add-four, add_five, add_six, add_seven, add_eight}
 use native.Mathlib.Omega.{arith}
@@ -12,7 +11,6 @@ use Rattle.table.proofs.Laws.{stores, over_over}
 use Rattle.headertype.specs.declared.OptNum.{OptNum}
 use Rattle.headertype.specs.declared.OptText.{OptText}
 use Rattle.headertype.specs.declared.StandardHeader.{StandardHeader}
-use Rattle.messageinfo.specs.declared.MessageType.{MessageType}
 use Rattle.storage.specs.declared.OptStored.{OptStored}
 use Rattle.filtering.specs.declared.OptExtended.{OptExtended}
 use Rattle.payload.specs.declared.PayloadContent.{PayloadContent}

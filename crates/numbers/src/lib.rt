@@ -1,6 +1,7 @@
 // Messages, arguments and raw values as numbers in a lent slice, for hosts that take no enum and no struct. specs/Layout.antt, specs/Arguments.antt and
 // specs/Raw.antt have the layout, number by number.
 #![tactic(auto)]
+
 ghost use Rattle.std.specs.Prelude.{◌≡◌, [], ◌∷◌, true, ◌+◌, ◌-◌, ◌≤◌, ◌<◌, length, get_or};
 ghost use Rattle.std.specs.Float.{binary32, binary64};
 ghost use Rattle.std.specs.Float.Ieee.{to_bits};

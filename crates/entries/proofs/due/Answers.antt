@@ -38,4 +38,3 @@ returns-in-Wait c =
 
 pub returns-else-cap-used : goal.returns-else-cap-used
 returns-else-cap-used c = c.write.ensures ∙ turn_writes _ _ _ _ _ _ _ (omega arith) (takes (goal.at.returns-else-cap-used c).In-Take) (omega arith)
-

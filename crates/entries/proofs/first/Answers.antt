@@ -25,4 +25,3 @@ returns-in-Retired c = c.stop-in-Retired.ensures ∙ first_retired _ _ _ _ _ _ c
 
 pub returns-in-Bad : goal.returns-in-Bad
 returns-in-Bad c = c.stop-in-Bad.ensures ∙ first_bad_filter _ _ _ _ _ _ c.read_filter.ensures c.in-Bad.is
-

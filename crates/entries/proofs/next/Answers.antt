@@ -4,4 +4,3 @@ use Rattle.entries.proofs.next.Goals as goal
 pub returns : goal.returns
 unfolding next_of_lem
 returns c = c.due.ensures
-

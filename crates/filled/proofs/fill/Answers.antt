@@ -1,8 +1,6 @@
-use Rattle.std.proofs.Common.{arith}
 use mathlib.Core.Path.{◌≡◌, sym, ap, ◌∙◌}
 use Prim.Native.Nat.{ℕ}
 use mathlib.Core.List.{List}
-use borrow.Author.Rules.{rules}
 use Rattle.index.specs.Index.{call, Outcome}
 use Rattle.index.specs.declared.State.{State}
 use Rattle.entries.specs.Form.{entry_form}
@@ -15,4 +13,3 @@ over f n s st same is = ap (call entry_form f n s st) (sym same) ∙ is
 
 pub returns : goal.returns
 returns c = over _ _ _ _ c.fresh-table.ensures c.index_own.ensures
-

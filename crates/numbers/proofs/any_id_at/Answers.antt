@@ -1,6 +1,4 @@
 -- `numbers::any_id_at` meets its contract: `search` goes through the rule as the code does.
-use Rattle.std.proofs.Common.{arith}
-use borrow.Author.Rules.{rules}
 use Rattle.numbers.proofs.Outlined.{outlined}
 use Rattle.numbers.proofs.any_id_at.Goals as goal
 
@@ -9,4 +7,3 @@ returns-in-Done c = search outlined depth 20
 
 pub returns-in-Need : goal.returns-in-Need
 returns-in-Need c = search outlined depth 20
-

@@ -1,5 +1,4 @@
 -- `numbers::behind_if` meets its contract: `search` goes through the rule as the code does.
-use Rattle.std.proofs.Common.{arith}
 use borrow.Author.Rules.{rules}
 use Rattle.numbers.proofs.Outlined.{outlined}
 use Rattle.numbers.proofs.behind_if.Goals as goal
@@ -9,4 +8,3 @@ returns-then-present c = search (outlined, rules) depth 20
 
 pub returns-else-present : goal.returns-else-present
 returns-else-present c = search (outlined, rules) depth 20
-

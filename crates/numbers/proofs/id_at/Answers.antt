@@ -1,6 +1,5 @@
 -- `numbers::id_at` meets its contract: `search` goes through the rule as the code does.
 use native.Mathlib.Omega.{arith}
-use borrow.Author.Rules.{rules}
 use Rattle.numbers.proofs.Outlined.{four_letters_lem, three_letters, outlined}
 use Rattle.numbers.proofs.id_at.Goals as goal
 
@@ -12,4 +11,3 @@ returns-then-s-at-eq0 c = three_letters _ _ _ _ _ c.letter_at.ensures c.if-lette
 
 pub returns : goal.returns
 returns c = search outlined depth 20
-

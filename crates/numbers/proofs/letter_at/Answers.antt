@@ -1,6 +1,4 @@
 -- `numbers::letter_at` meets its contract: `search` goes through the rule as the code does.
-use Rattle.std.proofs.Common.{arith}
-use borrow.Author.Rules.{rules}
 use Rattle.numbers.proofs.Outlined.{outlined}
 use Rattle.numbers.proofs.letter_at.Goals as goal
 
@@ -9,4 +7,3 @@ returns-then-s-at-eq0 c = search outlined depth 20
 
 pub returns : goal.returns
 returns c = search outlined depth 20
-

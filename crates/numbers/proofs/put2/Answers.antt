@@ -1,6 +1,5 @@
 use native.Mathlib.Omega.{arith}
 use lib.ListN.{length-set}
-use borrow.Author.Rules.{rules}
 use Rattle.numbers.proofs.Rows.{row2}
 use Rattle.numbers.proofs.put2.Goals as goal
 
@@ -9,4 +8,3 @@ bounds-out-at-2 c = simp length-set (omega arith)
 
 pub returns : goal.returns
 returns c = row2 _ _ _ _ c.requires
-

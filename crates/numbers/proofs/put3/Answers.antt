@@ -1,6 +1,5 @@
 use native.Mathlib.Omega.{arith}
 use lib.ListN.{length-set}
-use borrow.Author.Rules.{rules}
 use Rattle.numbers.proofs.Rows.{row3}
 use Rattle.numbers.proofs.put3.Goals as goal
 
@@ -12,4 +11,3 @@ bounds-out-at-3 c = simp length-set (omega arith)
 
 pub returns : goal.returns
 returns c = row3 _ _ _ _ _ c.requires
-

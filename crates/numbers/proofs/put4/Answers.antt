@@ -1,6 +1,5 @@
 use native.Mathlib.Omega.{arith}
 use lib.ListN.{length-set}
-use borrow.Author.Rules.{rules}
 use Rattle.numbers.proofs.Rows.{row4}
 use Rattle.numbers.proofs.put4.Goals as goal
 
@@ -15,4 +14,3 @@ bounds-out-at-4 c = simp length-set (omega arith)
 
 pub returns : goal.returns
 returns c = row4 _ _ _ _ _ _ c.requires
-

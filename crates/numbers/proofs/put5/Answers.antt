@@ -1,6 +1,5 @@
 use native.Mathlib.Omega.{arith}
 use lib.ListN.{length-set}
-use borrow.Author.Rules.{rules}
 use Rattle.numbers.proofs.Rows.{row5}
 use Rattle.numbers.proofs.put5.Goals as goal
 
@@ -18,4 +17,3 @@ bounds-out-at-5 c = simp length-set (omega arith)
 
 pub returns : goal.returns
 returns c = row5 _ _ _ _ _ _ _ c.requires
-

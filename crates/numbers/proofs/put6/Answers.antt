@@ -1,6 +1,5 @@
 use native.Mathlib.Omega.{arith}
 use lib.ListN.{length-set}
-use borrow.Author.Rules.{rules}
 use Rattle.numbers.proofs.Rows.{row6}
 use Rattle.numbers.proofs.put6.Goals as goal
 
@@ -21,4 +20,3 @@ bounds-out-at-6 c = simp length-set (omega arith)
 
 pub returns : goal.returns
 returns c = row6 _ _ _ _ _ _ _ _ c.requires
-

@@ -1,6 +1,5 @@
 use native.Mathlib.Omega.{arith}
 use lib.ListN.{length-set}
-use borrow.Author.Rules.{rules}
 use Rattle.numbers.proofs.Rows.{row9}
 use Rattle.numbers.proofs.put9.Goals as goal
 
@@ -30,4 +29,3 @@ bounds-out-at-9 c = simp length-set (omega arith)
 
 pub returns : goal.returns
 returns c = row9 _ _ _ _ _ _ _ _ _ _ _ c.requires
-

@@ -1,6 +1,4 @@
 -- `numbers::put_argument` meets its contract: `search` goes through the rule as the code does.
-use Rattle.std.proofs.Common.{arith}
-use borrow.Author.Rules.{rules}
 use Rattle.numbers.proofs.Groups.{groups}
 use Rattle.numbers.proofs.put_argument.Goals as goal
 
@@ -9,4 +7,3 @@ returns-then-out-ge26 c = search groups depth 20
 
 pub returns-else-out-ge26 : goal.returns-else-out-ge26
 returns-else-out-ge26 c = search groups depth 20
-

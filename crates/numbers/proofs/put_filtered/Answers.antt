@@ -1,6 +1,4 @@
 -- `numbers::put_filtered` meets its contract: `search` goes through the rule as the code does.
-use Rattle.std.proofs.Common.{arith}
-use borrow.Author.Rules.{rules}
 use Rattle.numbers.proofs.Rows.{rows}
 use Rattle.numbers.proofs.put_filtered.Goals as goal
 
@@ -9,4 +7,3 @@ returns-then-room-ge37 c = search rows depth 20
 
 pub returns-else-room-ge37 : goal.returns-else-room-ge37
 returns-else-room-ge37 c = search rows depth 20
-

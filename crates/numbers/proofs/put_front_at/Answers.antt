@@ -1,9 +1,6 @@
 -- `numbers::put_front_at` meets its contract: `search` goes through the rule as the code does.
-use Rattle.std.proofs.Common.{arith}
-use borrow.Author.Rules.{rules}
 use Rattle.numbers.proofs.Outlined.{outlined}
 use Rattle.numbers.proofs.put_front_at.Goals as goal
 
 pub returns : goal.returns
 returns c = search outlined depth 20
-

@@ -1,6 +1,4 @@
 -- `numbers::put_item` meets its contract: `search` goes through the rule as the code does.
-use Rattle.std.proofs.Common.{arith}
-use borrow.Author.Rules.{rules}
 use Rattle.numbers.proofs.Rows.{rows}
 use Rattle.numbers.proofs.put_item.Goals as goal
 
@@ -9,4 +7,3 @@ returns-then-out-ge37 c = search rows depth 20
 
 pub returns-else-out-ge37 : goal.returns-else-out-ge37
 returns-else-out-ge37 c = search rows depth 20
-

@@ -1,6 +1,4 @@
 -- `numbers::put_outlined` meets its contract: `search` goes through the rule as the code does.
-use Rattle.std.proofs.Common.{arith}
-use borrow.Author.Rules.{rules}
 use Rattle.numbers.proofs.Outlined.{outlined}
 use Rattle.numbers.proofs.put_outlined.Goals as goal
 
@@ -12,4 +10,3 @@ returns-else-out-ge37 c = search outlined depth 20
 
 pub returns-else-rest-ge42 : goal.returns-else-rest-ge42
 returns-else-rest-ge42 c = search outlined depth 20
-

@@ -1,6 +1,4 @@
 -- `numbers::put_payload` meets its contract: `search` goes through the rule as the code does.
-use Rattle.std.proofs.Common.{arith}
-use borrow.Author.Rules.{rules}
 use Rattle.numbers.proofs.Rows.{rows}
 use Rattle.numbers.specs.Layout.{payload_numbers}
 use Rattle.numbers.proofs.put_payload.Goals as goal
@@ -20,4 +18,3 @@ returns-in-ControlMsg c = search rows depth 20
 pub returns-in-NetworkTrace : goal.returns-in-NetworkTrace
 unfolding payload_numbers
 returns-in-NetworkTrace c = search rows depth 20
-

@@ -1,6 +1,4 @@
 -- `numbers::put_point` meets its contract: `search` goes through the rule as the code does.
-use Rattle.std.proofs.Common.{arith}
-use borrow.Author.Rules.{rules}
 use Rattle.numbers.proofs.Groups.{groups}
 use Rattle.numbers.proofs.put_point.Goals as goal
 
@@ -9,4 +7,3 @@ returns-in-Present c = search groups depth 20
 
 pub returns-in-Absent : goal.returns-in-Absent
 returns-in-Absent c = search groups depth 20
-

@@ -1,6 +1,4 @@
 -- `numbers::put_raw` meets its contract: `search` goes through the rule as the code does.
-use Rattle.std.proofs.Common.{arith}
-use borrow.Author.Rules.{rules}
 use Rattle.numbers.proofs.Groups.{groups}
 use Rattle.numbers.proofs.put_raw.Goals as goal
 
@@ -9,4 +7,3 @@ returns-then-out-ge5 c = search groups depth 20
 
 pub returns-else-out-ge5 : goal.returns-else-out-ge5
 returns-else-out-ge5 c = search groups depth 20
-

@@ -1,6 +1,4 @@
 -- `numbers::put_storage` meets its contract: `search` goes through the rule as the code does.
-use Rattle.std.proofs.Common.{arith}
-use borrow.Author.Rules.{rules}
 use Rattle.numbers.proofs.Rows.{rows}
 use Rattle.numbers.specs.Layout.{storage_numbers}
 use Rattle.numbers.proofs.put_storage.Goals as goal
@@ -12,4 +10,3 @@ returns-in-Present c = search rows depth 20
 pub returns-in-Absent : goal.returns-in-Absent
 unfolding storage_numbers
 returns-in-Absent c = search rows depth 20
-

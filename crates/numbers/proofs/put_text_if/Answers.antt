@@ -1,6 +1,4 @@
 -- `numbers::put_text_if` meets its contract: `search` goes through the rule as the code does.
-use Rattle.std.proofs.Common.{arith}
-use borrow.Author.Rules.{rules}
 use Rattle.numbers.proofs.Outlined.{outlined}
 use Rattle.numbers.proofs.put_text_if.Goals as goal
 
@@ -9,4 +7,3 @@ returns-then-present c = search outlined depth 20
 
 pub returns-else-present : goal.returns-else-present
 returns-else-present c = search outlined depth 20
-

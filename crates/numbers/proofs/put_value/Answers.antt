@@ -1,9 +1,6 @@
 -- `numbers::put_value` meets its contract: `search` goes through the rule as the code does.
-use Rattle.std.proofs.Common.{arith}
-use borrow.Author.Rules.{rules}
 use Rattle.numbers.proofs.Groups.{groups}
 use Rattle.numbers.proofs.put_value.Goals as goal
 
 pub returns : goal.returns
 returns c = search groups depth 20
-

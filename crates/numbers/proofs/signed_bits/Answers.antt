@@ -1,4 +1,3 @@
-use Rattle.std.proofs.Common.{rules}
 use native.Mathlib.Omega.{arith}
 use mathlib.Core.Path.{ap, ◌∙◌}
 use mir.Syntax.{w64}
@@ -25,4 +24,3 @@ overflow_sub-result-2 c = omega (arith, (lower _ (sfits_to_z (Fits-of_z c.ranges
 
 pub returns : goal.returns
 returns c = lower_is (to_z w64 (of_z w64 c.args.n)) (sfits_to_z (Fits-of_z c.ranges.n)) c.if-n-ge0.false ∙ ap signed_bits_of (to_z-of_z c.ranges.n)
-

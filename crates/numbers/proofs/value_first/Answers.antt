@@ -1,9 +1,5 @@
-use Rattle.std.proofs.Common.{arith}
 use mathlib.Core.Path.{sym, ap, ◌∙◌}
-use mir.Syntax.{w8, w16, w32, w64}
 use Rattle.numbers.specs.Arguments.{value_first_of}
-use Rattle.numbers.proofs.Signed.{handed}
-use borrow.Author.Rules.{rules}
 use Rattle.numbers.proofs.value_first.Goals as goal
 
 pub returns-in-F32 : goal.returns-in-F32
@@ -14,4 +10,3 @@ returns-in-F64 c = c.bits_of_f64.ensures ∙ sym (ap value_first_of c.in-F64.is)
 
 pub returns-in-StringVal : goal.returns-in-StringVal
 returns-in-StringVal c = sym (ap value_first_of c.in-StringVal.is)
-

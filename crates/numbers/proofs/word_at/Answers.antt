@@ -1,6 +1,4 @@
 -- `numbers::word_at` meets its contract: `search` goes through the rule as the code does.
-use Rattle.std.proofs.Common.{arith}
-use borrow.Author.Rules.{rules}
 use Rattle.numbers.proofs.Outlined.{outlined}
 use Rattle.numbers.proofs.word_at.Goals as goal
 
@@ -9,4 +7,3 @@ returns-then-big c = search outlined depth 20
 
 pub returns-else-big : goal.returns-else-big
 returns-else-big c = search outlined depth 20
-
