@@ -17,8 +17,6 @@ use Rattle.wire.proofs.Step.{step, asking_done, asking_need, fixed_done, fixed_n
 use Rattle.strings.specs.Text.{ended_text, text_need, text, identified}
 use Rattle.headertype.specs.Bits.{flag}
 use Rattle.headertype.specs.HeaderType.{all_headers}
-use Rattle.headertype.specs.declared.OptNum.{OptNum}
-use Rattle.headertype.specs.declared.OptText.{OptText}
 use Rattle.headertype.specs.declared.StandardHeader.{StandardHeader}
 use Rattle.messageinfo.specs.declared.ExtendedHeader.{ExtendedHeader}
 use Rattle.headers.specs.Standard.{maybe_id, maybe_number_of, header_of_lem, flagged, standard}
@@ -26,6 +24,7 @@ use Rattle.headers.specs.Extended.{extended_of_lem, named, extended}
 use Rattle.protocol.specs.Fields.{Field, offset, big_endian_of}
 use Rattle.agreement.specs.Agree.{htyp_of, len_of}
 use Rattle.agreement.proofs.Headers.{big_number, one_byte}
+use Rattle.std.specs.Prelude.{Some, None}
 
 -- ---- a rule that takes w bytes at a position: it answers x once they are there, and waits until then
 pub record Asks {A : Type 0} (p : Parser A) (s : List ℕ) (at w : ℕ) (x : Ans A) : Type 0 where
@@ -85,15 +84,15 @@ asks_then {a = a} {x = x} p k s at w v f g = record {
     by false e h = waits_then p k s at (f.short (leb-false _ _ e))
 
 -- what is asked for if flagged
-asks_maybe_id : (t : Bool) (s : List ℕ) (at : ℕ) → Asks (maybe_id t) s at (pick t 4 0) (done (pick t (OptText.Present (ended_text 4 s at)) OptText.Absent) (at + pick t 4 0))
+asks_maybe_id : (t : Bool) (s : List ℕ) (at : ℕ) → Asks (maybe_id t) s at (pick t 4 0) (done (pick t (Some (ended_text 4 s at)) None) (at + pick t 4 0))
 unfolding maybe_id choose
-asks_maybe_id true s at = asks_then identified (λ v. ret (OptText.Present v)) s at 4 0 (asks_id s at) (asks_ret (OptText.Present (ended_text 4 s at)) s (at + 4))
-asks_maybe_id false s at = rw add-zero (asks_ret OptText.Absent s at)
+asks_maybe_id true s at = asks_then identified (λ v. ret (Some v)) s at 4 0 (asks_id s at) (asks_ret (Some (ended_text 4 s at)) s (at + 4))
+asks_maybe_id false s at = rw add-zero (asks_ret None s at)
 
-asks_maybe_number : (t : Bool) (s : List ℕ) (at : ℕ) → Asks (maybe_number_of t) s at (pick t 4 0) (done (pick t (OptNum.Present (big_endian_of 4 s at)) OptNum.Absent) (at + pick t 4 0))
+asks_maybe_number : (t : Bool) (s : List ℕ) (at : ℕ) → Asks (maybe_number_of t) s at (pick t 4 0) (done (pick t (Some (big_endian_of 4 s at)) None) (at + pick t 4 0))
 unfolding maybe_number_of choose
-asks_maybe_number true s at = asks_then (number true 4) (λ v. ret (OptNum.Present v)) s at 4 0 (asks_number 4 s at) (asks_ret (OptNum.Present (big_endian_of 4 s at)) s (at + 4))
-asks_maybe_number false s at = rw add-zero (asks_ret OptNum.Absent s at)
+asks_maybe_number true s at = asks_then (number true 4) (λ v. ret (Some v)) s at 4 0 (asks_number 4 s at) (asks_ret (Some (big_endian_of 4 s at)) s (at + 4))
+asks_maybe_number false s at = rw add-zero (asks_ret None s at)
 
 -- the last test: the declared length against all headers
 asks_choice : {A : Type 0} (t : Bool) (a : A) (r : ℕ) (s : List ℕ) (at : ℕ) → Asks (choose t (ret a) (refuse r)) s at 0 (pick t (done a at) (hickup r))
@@ -129,8 +128,8 @@ module _ (s : List ℕ) (at : ℕ) where
       let a6 = a5 + pick (flag 8 t) 4 0 in
       let a7 = a6 + pick (flag 16 t) 4 0 in
       let l = big_endian_of 2 s a2 in
-      let h = header_of_lem t (big_endian_of 1 s a1) l (pick (flag 4 t) (OptText.Present (ended_text 4 s a4)) OptText.Absent)
-      (pick (flag 8 t) (OptNum.Present (big_endian_of 4 s a5)) OptNum.Absent) (pick (flag 16 t) (OptNum.Present (big_endian_of 4 s a6)) OptNum.Absent) in
+      let h = header_of_lem t (big_endian_of 1 s a1) l (pick (flag 4 t) (Some (ended_text 4 s a4)) None)
+      (pick (flag 8 t) (Some (big_endian_of 4 s a5)) None) (pick (flag 16 t) (Some (big_endian_of 4 s a6)) None) in
       let e : a2 ≡ at + 2 = omega arith in
       told_of t l h a7 (one_byte s at) (ap (big_endian_of 2 s) e)
       (asks_then (number true 1) _ s at 1 _ (asks_number 1 s at)

@@ -9,13 +9,13 @@ use Rattle.wire.specs.Run.{range}
 use Rattle.wire.specs.declared.Ended.{Ended}
 use Rattle.wire.specs.declared.Range.{Range}
 use Rattle.wire.specs.declared.Text.{Text}
-use Rattle.headertype.specs.declared.OptText.{OptText}
 use Rattle.headertype.specs.declared.StandardHeader.{StandardHeader}
 use Rattle.messageinfo.specs.declared.ExtendedHeader.{ExtendedHeader}
 use Rattle.protocol.specs.Fields.{Field, width, field_bytes}
 use Rattle.agreement.specs.Identifier.{end_in}
 use Rattle.agreement.specs.Agree.{htyp_of, bytes_of, IdField, MaybeIdField, StandardAgrees, ExtendedAgrees}
 use Rattle.agreement.proofs.Text.{one_identifier}
+use Rattle.std.specs.Prelude.{Option, Some, None}
 
 module _ (f : Field) (s : List ℕ) (at : ℕ) where
   id_length_lem : (t : Text) → IdField f s at t → length (bytes_of t.place s) ≡ t.place.len
@@ -32,17 +32,17 @@ module _ (f : Field) (s : List ℕ) (at : ℕ) where
       let why : t.ended ≡ u.ended = i.why ∙ ap (end_in (width f) (field_bytes f (htyp_of s at) s at)) same ∙ sym j.why in
       ap₂ (λ (p : Range) (w : Ended). record { place = p; ended = w }) (one_range t u i j) why
 
-  one_maybe : (o p : OptText) → MaybeIdField f s at o → MaybeIdField f s at p → o ≡ p
-  one_maybe (OptText.Present r) (OptText.Present q) i j = ap OptText.Present (one_text r q i.1 j.1)
-  one_maybe (OptText.Present r) OptText.Absent i j =
+  one_maybe : (o p : Option Text) → MaybeIdField f s at o → MaybeIdField f s at p → o ≡ p
+  one_maybe (Some r) (Some q) i j = ap Some (one_text r q i.1 j.1)
+  one_maybe (Some r) None i j =
       let z : true ≡ false = sym i.0 ∙ j in
       let y : ◌≡◌ {A = ℕ} 0 1 = cc in
       absurd (omega arith)
-  one_maybe OptText.Absent (OptText.Present q) i j =
+  one_maybe None (Some q) i j =
       let z : true ≡ false = sym j.0 ∙ i in
       let y : ◌≡◌ {A = ℕ} 0 1 = cc in
       absurd (omega arith)
-  one_maybe OptText.Absent OptText.Absent i j = refl
+  one_maybe None None i j = refl
 
 module _ (s : List ℕ) (at : ℕ) where
   pub one_standard : (h g : StandardHeader) (m n : ℕ) → StandardAgrees s at h m → StandardAgrees s at g n → h ≡ g

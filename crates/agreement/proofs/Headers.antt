@@ -13,8 +13,6 @@ use Rattle.wire.specs.Number.{digits, number_of, number}
 use Rattle.strings.specs.Text.{text_of, ended_text, identified}
 use Rattle.headertype.specs.Bits.{flag}
 use Rattle.headertype.specs.HeaderType.{all_headers}
-use Rattle.headertype.specs.declared.OptNum.{OptNum}
-use Rattle.headertype.specs.declared.OptText.{OptText}
 use Rattle.headertype.specs.declared.StandardHeader.{StandardHeader}
 use Rattle.messageinfo.specs.declared.ExtendedHeader.{ExtendedHeader}
 use Rattle.headers.specs.Standard.{maybe_id, maybe_number_of, endian_of, header_of_lem, flagged, standard}
@@ -26,7 +24,9 @@ use Rattle.protocol.proofs.Names.{type_read, subtype_read}
 use Rattle.agreement.specs.Agree.{htyp_of, IdField, MaybeIdField, StandardAgrees, ExtendedAgrees}
 use Rattle.agreement.proofs.Text.{text_identifier, text_ended, text_inside}
 use Rattle.headers.proofs.Inverse as inverse
-use Rattle.headers.proofs.Inverse.{Split, split, of_ret, of_refuse, of_id, of_maybe_id}
+use Rattle.headers.proofs.Inverse.{split, of_ret, of_refuse, of_id, of_maybe_id}
+use Rattle.std.specs.Prelude.{Option, Some, None}
+use Rattle.wire.specs.declared.Text.{Text}
 
 -- the number of w bytes, as the protocol has it
 pub big_number : (w : ℕ) (s : List ℕ) (at : ℕ) → number_of true w s at ≡ big_endian_of w s at
@@ -40,11 +40,11 @@ big_number w s at = digits_big w w s at
 of_number : {v n : ℕ} (w : ℕ) (s : List ℕ) (at : ℕ) → number true w s at ≡ done v n → (v ≡ big_endian_of w s at) × (n ≡ at + w)
 of_number w s at e = let r = inverse.of_number true w s at e in (r.0 ∙ big_number w s at, r.1)
 
-of_maybe_number : {o : OptNum} {n : ℕ} (t : Bool) (s : List ℕ) (at : ℕ) → maybe_number_of t s at ≡ done o n
-    → (o ≡ pick t (OptNum.Present (big_endian_of 4 s at)) OptNum.Absent) × (n ≡ at + pick t 4 0)
+of_maybe_number : {o : Option ℕ} {n : ℕ} (t : Bool) (s : List ℕ) (at : ℕ) → maybe_number_of t s at ≡ done o n
+    → (o ≡ pick t (Some (big_endian_of 4 s at)) None) × (n ≡ at + pick t 4 0)
 of_maybe_number t s at e =
     let r = inverse.of_maybe_number t s at e in
-    (r.0 ∙ ap (λ (v : ℕ). pick t (OptNum.Present v) OptNum.Absent) (big_number 4 s at), r.1)
+    (r.0 ∙ ap (λ (v : ℕ). pick t (Some v) None) (big_number 4 s at), r.1)
 
 pub one_byte : (s : List ℕ) (at : ℕ) → big_endian_of 1 s at ≡ get_or s at 0
 one_byte s at = rw add-zero (omega arith)
@@ -56,7 +56,7 @@ id_field f s at w =
     let place = at + offset (htyp_of s at) f in
     record { starts = refl; inside = text_inside 4 s place; bytes = rw w (text_identifier 4 s place); why = rw w (text_ended 4 s place) }
 
-maybe_id_field : (s : List ℕ) (at : ℕ) (t : Bool) → WEID (htyp_of s at) ≡ t → MaybeIdField Field.ECU s at (pick t (OptText.Present (ended_text 4 s (at + 4))) OptText.Absent)
+maybe_id_field : (s : List ℕ) (at : ℕ) (t : Bool) → WEID (htyp_of s at) ≡ t → MaybeIdField Field.ECU s at (pick t (Some (ended_text 4 s (at + 4))) None)
 maybe_id_field s at true e = (e, id_field Field.ECU s at refl)
 maybe_id_field s at false e = e
 
@@ -72,10 +72,10 @@ module _ (s : List ℕ) (at : ℕ) (byte : htyp_of s at < 256) where
   abbrev b3 : ℕ
   b3 = b2 + pick (flag 16 (htyp_of s at)) 4 0
 
-  made : (type counter length : ℕ) (ecu : OptText) (session time : OptNum) (next : ℕ) → type ≡ htyp_of s at → counter ≡ big_endian_of 1 s (at + 1) → length ≡ big_endian_of 2 s (at + 2)
-      → ecu ≡ pick (flag 4 (htyp_of s at)) (OptText.Present (ended_text 4 s (at + 4))) OptText.Absent
-      → session ≡ pick (flag 8 (htyp_of s at)) (OptNum.Present (big_endian_of 4 s (at + 4 + b1))) OptNum.Absent
-      → time ≡ pick (flag 16 (htyp_of s at)) (OptNum.Present (big_endian_of 4 s (at + 4 + b2))) OptNum.Absent
+  made : (type counter length : ℕ) (ecu : Option Text) (session time : Option ℕ) (next : ℕ) → type ≡ htyp_of s at → counter ≡ big_endian_of 1 s (at + 1) → length ≡ big_endian_of 2 s (at + 2)
+      → ecu ≡ pick (flag 4 (htyp_of s at)) (Some (ended_text 4 s (at + 4))) None
+      → session ≡ pick (flag 8 (htyp_of s at)) (Some (big_endian_of 4 s (at + 4 + b1))) None
+      → time ≡ pick (flag 16 (htyp_of s at)) (Some (big_endian_of 4 s (at + 4 + b2))) None
       → next ≡ at + 4 + b3
       → StandardAgrees s at (header_of_lem type counter length ecu session time) next
   unfolding header_of_lem endian_of
@@ -89,8 +89,8 @@ module _ (s : List ℕ) (at : ℕ) (byte : htyp_of s at < 256) where
         mcnt = c;
         len = rw (t, l, headers_length (htyp_of s at) byte);
         ecu = subst (MaybeIdField Field.ECU s at) (sym e) (maybe_id_field s at (WEID (htyp_of s at)) refl);
-        seid = n ∙ ap (λ (k : ℕ). pick (WSID (htyp_of s at)) (OptNum.Present (big_endian_of 4 s k)) OptNum.Absent) p;
-        tmsp = m ∙ ap (λ (k : ℕ). pick (WTMS (htyp_of s at)) (OptNum.Present (big_endian_of 4 s k)) OptNum.Absent) q;
+        seid = n ∙ ap (λ (k : ℕ). pick (WSID (htyp_of s at)) (Some (big_endian_of 4 s k)) None) p;
+        tmsp = m ∙ ap (λ (k : ℕ). pick (WTMS (htyp_of s at)) (Some (big_endian_of 4 s k)) None) q;
         ends = z ∙ omega arith;
       }
 
@@ -108,18 +108,18 @@ module _ (s : List ℕ) (at : ℕ) (byte : htyp_of s at < 256) where
       let m1 : r1.mid ≡ at + 4 + b1 = i1.1 ∙ ap₂ (λ (k y : ℕ). k + pick (flag 4 y) 4 0) m t in
       let m2 : r2.mid ≡ at + 4 + b2 = i2.1 ∙ ap₂ (λ (k y : ℕ). k + pick (flag 8 y) 4 0) m1 t ∙ omega arith in
       let m3 : r3.mid ≡ at + 4 + b3 = i3.1 ∙ ap₂ (λ (k y : ℕ). k + pick (flag 16 y) 4 0) m2 t ∙ omega arith in
-      let f1 : r1.value ≡ pick (flag 4 (htyp_of s at)) (OptText.Present (ended_text 4 s (at + 4))) OptText.Absent
-      = i1.0 ∙ ap₂ (λ (k y : ℕ). pick (flag 4 y) (OptText.Present (ended_text 4 s k)) OptText.Absent) m t in
-      let f2 : r2.value ≡ pick (flag 8 (htyp_of s at)) (OptNum.Present (big_endian_of 4 s (at + 4 + b1))) OptNum.Absent
-      = i2.0 ∙ ap₂ (λ (k y : ℕ). pick (flag 8 y) (OptNum.Present (big_endian_of 4 s k)) OptNum.Absent) m1 t in
-      let f3 : r3.value ≡ pick (flag 16 (htyp_of s at)) (OptNum.Present (big_endian_of 4 s (at + 4 + b2))) OptNum.Absent
-      = i3.0 ∙ ap₂ (λ (k y : ℕ). pick (flag 16 y) (OptNum.Present (big_endian_of 4 s k)) OptNum.Absent) m2 t in
+      let f1 : r1.value ≡ pick (flag 4 (htyp_of s at)) (Some (ended_text 4 s (at + 4))) None
+      = i1.0 ∙ ap₂ (λ (k y : ℕ). pick (flag 4 y) (Some (ended_text 4 s k)) None) m t in
+      let f2 : r2.value ≡ pick (flag 8 (htyp_of s at)) (Some (big_endian_of 4 s (at + 4 + b1))) None
+      = i2.0 ∙ ap₂ (λ (k y : ℕ). pick (flag 8 y) (Some (big_endian_of 4 s k)) None) m1 t in
+      let f3 : r3.value ≡ pick (flag 16 (htyp_of s at)) (Some (big_endian_of 4 s (at + 4 + b2))) None
+      = i3.0 ∙ ap₂ (λ (k y : ℕ). pick (flag 16 y) (Some (big_endian_of 4 s k)) None) m2 t in
       by r1.value r2.value r3.value r3.mid f1 f2 f3 m3 (leb (all_headers type) length) r3.second
     where
-      by : (ecu : OptText) (session time : OptNum) (k : ℕ)
-          → ecu ≡ pick (flag 4 (htyp_of s at)) (OptText.Present (ended_text 4 s (at + 4))) OptText.Absent
-          → session ≡ pick (flag 8 (htyp_of s at)) (OptNum.Present (big_endian_of 4 s (at + 4 + b1))) OptNum.Absent
-          → time ≡ pick (flag 16 (htyp_of s at)) (OptNum.Present (big_endian_of 4 s (at + 4 + b2))) OptNum.Absent
+      by : (ecu : Option Text) (session time : Option ℕ) (k : ℕ)
+          → ecu ≡ pick (flag 4 (htyp_of s at)) (Some (ended_text 4 s (at + 4))) None
+          → session ≡ pick (flag 8 (htyp_of s at)) (Some (big_endian_of 4 s (at + 4 + b1))) None
+          → time ≡ pick (flag 16 (htyp_of s at)) (Some (big_endian_of 4 s (at + 4 + b2))) None
           → k ≡ at + 4 + b3 → (b : Bool)
           → pick b (ret (header_of_lem type counter length ecu session time) s k) (refuse 1 s k) ≡ done h n → StandardAgrees s at h n
       by ecu session time k f1 f2 f3 z true g =

@@ -1,11 +1,9 @@
 -- What it means that a header is the protocol's: each of its fields is the protocol's field of the bytes at HTYP's position.
-use Rattle.std.specs.Prelude.{ℕ, ◌+◌, ◌-◌, ◌≤◌, ◌<◌, ◌≡◌, true, false, List, length, get_or, take, drop}
+use Rattle.std.specs.Prelude.{ℕ, ◌+◌, ◌-◌, ◌≤◌, ◌<◌, ◌≡◌, true, false, List, length, get_or, take, drop, Option, Some, None}
 use Rattle.wire.specs.Parser.{pick}
 use Rattle.wire.specs.declared.Range.{Range}
 use Rattle.wire.specs.declared.Text.{Text}
 use Rattle.headertype.specs.declared.Endianness.{Endianness}
-use Rattle.headertype.specs.declared.OptNum.{OptNum}
-use Rattle.headertype.specs.declared.OptText.{OptText}
 use Rattle.headertype.specs.declared.StandardHeader.{StandardHeader}
 use Rattle.messageinfo.specs.MessageInfo.{message_type_of}
 use Rattle.messageinfo.specs.Kept.{type_number_of, subtype_number_of}
@@ -25,8 +23,8 @@ abbrev pub len_of : List ℕ → ℕ → ℕ
 len_of s at = field_number Field.LEN (htyp_of s at) s at
 
 -- a number of the protocol's layout, if HTYP says that it is there
-abbrev pub number_field : Field → List ℕ → ℕ → OptNum
-number_field f s at = pick (present (htyp_of s at) f) (OptNum.Present (field_number f (htyp_of s at) s at)) OptNum.Absent
+abbrev pub number_field : Field → List ℕ → ℕ → Option ℕ
+number_field f s at = pick (present (htyp_of s at) f) (Some (field_number f (htyp_of s at) s at)) None
 
 -- a part r of the bytes s, as bytes
 abbrev pub bytes_of : Range → List ℕ → List ℕ
@@ -41,9 +39,9 @@ pub record IdField (f : Field) (s : List ℕ) (at : ℕ) (t : Text) : Type 0 whe
   pub why : t.ended ≡ end_in (width f) (field_bytes f (htyp_of s at) s at) (bytes_of t.place s)
 
 -- it is there just where HTYP says so
-abbrev pub MaybeIdField : Field → List ℕ → ℕ → OptText → Type 0
-MaybeIdField f s at (OptText.Present t) = (present (htyp_of s at) f ≡ true) × IdField f s at t
-MaybeIdField f s at OptText.Absent = present (htyp_of s at) f ≡ false
+abbrev pub MaybeIdField : Field → List ℕ → ℕ → Option Text → Type 0
+MaybeIdField f s at (Some t) = (present (htyp_of s at) f ≡ true) × IdField f s at t
+MaybeIdField f s at None = present (htyp_of s at) f ≡ false
 
 -- the standard header h whose HTYP stands at a position, and that it ends where the extended header or the payload begins
 pub record StandardAgrees (s : List ℕ) (at : ℕ) (h : StandardHeader) (next : ℕ) : Type 0 where

@@ -9,16 +9,17 @@ use Rattle.strings.proofs.Strings.{text_law}
 use Rattle.dlt.specs.declared.FloatWidth.{FloatWidth}
 use Rattle.dlt.specs.declared.TypeInfoKind.{TypeInfoKind}
 use Rattle.dlt.specs.declared.TypeInfo.{TypeInfo}
-use Rattle.dlt.specs.declared.Decoded.{Decoded}
+use Rattle.std.specs.Prelude.{Result, Ok, Err}
+use Rattle.dlt.specs.declared.NoTypeInfo.{NoTypeInfo}
 use Rattle.values.specs.declared.Numeric.{Numeric}
 use Rattle.values.proofs.Laws.{value_law, fixed_point_law}
 use Rattle.names.proofs.Laws.{maybe_name_law, maybe_names_law}
 use Rattle.arguments.specs.Argument.{decoded, type_info_of, plain, scaled, boolean, content, sized, kinded, argument}
 
-decoded_law : (d : Decoded) → Lawful (decoded d)
+decoded_law : (d : Result TypeInfo NoTypeInfo) → Lawful (decoded d)
 unfolding decoded ret refuse
-decoded_law (Decoded.Accepted i) = ret_law i
-decoded_law Decoded.Refused = refuse_law 2
+decoded_law (Ok i) = ret_law i
+decoded_law (Err r) = refuse_law 2
 
 pub type_info_law : (big : Bool) → Lawful (type_info_of big)
 unfolding type_info_of

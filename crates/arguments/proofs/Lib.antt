@@ -1,5 +1,4 @@
 pub mod Reading
 pub mod Laws
 pub mod Placed
-pub mod Determined
 pub mod Vectors

@@ -8,13 +8,14 @@ use Rattle.wire.specs.Answer.{Ans, Parser}
 use Rattle.wire.specs.Answer.Ans.{done, need, hickup, broken}
 use Rattle.wire.specs.Parser.{◌>>=◌, here}
 use Rattle.wire.proofs.Step.{then_done, then_need, then_hickup, then_broken, here_is, ret_is}
-use Rattle.headertype.specs.declared.OptText.{OptText}
 use Rattle.dlt.specs.declared.TypeInfoKind.{TypeInfoKind}
 use Rattle.dlt.specs.declared.TypeInfo.{TypeInfo}
-use Rattle.dlt.specs.declared.OptPoint.{OptPoint}
 use Rattle.dlt.specs.declared.Value.{Value}
 use Rattle.dlt.specs.declared.Argument.{Argument}
 use Rattle.arguments.specs.Argument.{type_info_of, made, plain, scaled, boolean, sized, kinded, argument}
+use Rattle.std.specs.Prelude.{Option}
+use Rattle.dlt.specs.declared.FixedPoint.{FixedPoint}
+use Rattle.wire.specs.declared.Text.{Text}
 
 -- a value of this answer has Q
 abbrev pub Holds : {A : Type 0} → (A → ℕ → Type 0) → Ans A → Type 0
@@ -40,7 +41,7 @@ abbrev Stands : ℕ → Argument → ℕ → Type 0
 Stands start a b = (a.start ≡ start) × (a.end ≡ b)
 
 module _ (start : ℕ) (info : TypeInfo) where
-  made_gives : (name unit : OptText) (point : OptPoint) (value : Value) → Gives (Stands start) (made start info name unit point value)
+  made_gives : (name unit : Option Text) (point : Option FixedPoint) (value : Value) → Gives (Stands start) (made start info name unit point value)
   made_gives name unit point value =
       record { holds = λ s at. rw (then_done here _ s at (here_is s at), ret_is _ s at) (refl, refl) }
 

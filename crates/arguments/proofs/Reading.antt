@@ -1,57 +1,43 @@
--- The lemmas of this crate's answer enums and of its rules by clauses, for `search` (wire's Reading.antt says how).
+-- The lemmas of this crate's rules by clauses, for `search` (wire's Reading.antt says how).
 use Prim.Native.Nat.{ℕ}
-use mathlib.Core.Path.{◌≡◌, refl, sym, ◌∙◌}
+use mathlib.Core.Path.{◌≡◌, sym, ap, ◌∙◌}
 use mathlib.Core.Bool.{Bool}
 use mathlib.Core.List.{List}
-use Rattle.wire.specs.Answer.{Ans, Parser}
-use Rattle.wire.specs.Answer.Ans.{done, need, hickup}
-use Rattle.wire.specs.Parser.{◌>>=◌}
-use Rattle.wire.proofs.Reading.{by_done, by_need, by_hickup}
+use Rattle.wire.specs.Answer.{Ans}
+use Rattle.wire.specs.Answer.Ans.{done, hickup}
+use Rattle.wire.proofs.Reading.{reading}
+use Rattle.wire.specs.Answers.{stop_ans}
+use Rattle.wire.specs.declared.Got.{Got}
+use Rattle.wire.specs.declared.Stop.{Stop}
+use Rattle.dlt.specs.contracts.StopFromNoTypeInfo as StopFromNoTypeInfo
+use Rattle.std.specs.Prelude.{IsErr, IsErrAnd, Result, Ok, Err}
+use Rattle.std.specs.Result.{result_from_control_flow}
+use Rattle.std.proofs.Common.{Continue, Break}
+use Rattle.std.proofs.lemmas.Bool.{false≢true}
 use Rattle.dlt.specs.declared.TypeLength.{TypeLength}
 use Rattle.dlt.specs.declared.FloatWidth.{FloatWidth}
 use Rattle.dlt.specs.declared.TypeInfoKind.{TypeInfoKind}
 use Rattle.dlt.specs.declared.TypeInfo.{TypeInfo}
-use Rattle.dlt.specs.declared.Decoded.{Decoded}
+use Rattle.dlt.specs.declared.NoTypeInfo.{NoTypeInfo}
 use Rattle.dlt.specs.declared.Argument.{Argument}
 use Rattle.values.specs.declared.Numeric.{Numeric}
-use Rattle.names.proofs.Reading.{names-reading}
 use Rattle.values.proofs.Reading.{values-reading}
-use Rattle.arguments.specs.Argument.{decoded, scaled, kinded, type_info_ans, argument_ans}
-use Rattle.arguments.specs.declared.GotTypeInfo.{GotTypeInfo}
-use Rattle.arguments.specs.declared.TypeInfoAns.{TypeInfoAns}
-use Rattle.arguments.specs.declared.GotArgument.{GotArgument}
-use Rattle.arguments.specs.declared.ArgumentAns.{ArgumentAns}
-
--- ---- the answer enums
-module _ {B : Type 0} (p : Parser TypeInfo) (k : TypeInfo → Parser B) (s : List ℕ) (at : ℕ) where
-  pub step_type_info : (r : TypeInfoAns) (g : GotTypeInfo) (x : Ans B) → type_info_ans r ≡ p s at → r ≡ TypeInfoAns.Done g → x ≡ k g.v s g.next → x ≡ (p >>= k) s at
-  step_type_info r g x e q f = by_done type_info_ans p k s at e q refl f
-
-  pub need_type_info : (r : TypeInfoAns) (n : ℕ) → type_info_ans r ≡ p s at → r ≡ TypeInfoAns.Need n → need n ≡ (p >>= k) s at
-  need_type_info r n e q = by_need type_info_ans p k s at e q refl
-
-  pub hickup_type_info : (r : TypeInfoAns) (n : ℕ) → type_info_ans r ≡ p s at → r ≡ TypeInfoAns.Hickup n → hickup n ≡ (p >>= k) s at
-  hickup_type_info r n e q = by_hickup type_info_ans p k s at e q refl
-
-module _ {B : Type 0} (p : Parser Argument) (k : Argument → Parser B) (s : List ℕ) (at : ℕ) where
-  pub step_argument : (r : ArgumentAns) (g : GotArgument) (x : Ans B) → argument_ans r ≡ p s at → r ≡ ArgumentAns.Done g → x ≡ k g.v s g.next → x ≡ (p >>= k) s at
-  step_argument r g x e q f = by_done argument_ans p k s at e q refl f
-
-  pub need_argument : (r : ArgumentAns) (n : ℕ) → argument_ans r ≡ p s at → r ≡ ArgumentAns.Need n → need n ≡ (p >>= k) s at
-  need_argument r n e q = by_need argument_ans p k s at e q refl
-
-  pub hickup_argument : (r : ArgumentAns) (n : ℕ) → argument_ans r ≡ p s at → r ≡ ArgumentAns.Hickup n → hickup n ≡ (p >>= k) s at
-  hickup_argument r n e q = by_hickup argument_ans p k s at e q refl
+use Rattle.arguments.specs.Argument.{decoded, scaled, kinded}
 
 -- ---- a word that was decoded: d is what a call gave for w
-module _ (s : List ℕ) (at : ℕ) (d w : Decoded) (e : d ≡ w) where
-  pub accepted_is : (i : TypeInfo) → d ≡ Decoded.Accepted i → done i at ≡ decoded w s at
+module _ (s : List ℕ) (at : ℕ) (d w : Result TypeInfo NoTypeInfo) (e : d ≡ w) (c : _) (t : d ≡ result_from_control_flow c) where
+  pub accepted_is : (i : TypeInfo) → c ≡ Continue i → done i at ≡ decoded w s at
   unfolding decoded
-  accepted_is i q = rw (sym e ∙ q)
+  accepted_is i q = rw (sym e ∙ t ∙ ap result_from_control_flow q)
 
-  pub refused_is : d ≡ Decoded.Refused → hickup 2 ≡ decoded w s at
+  pub refused_is : (n : _) (x : Ans TypeInfo) → c ≡ Break n → x ≡ hickup 2 → x ≡ decoded w s at
   unfolding decoded
-  refused_is q = rw (sym e ∙ q)
+  refused_is n x q h = rw (sym e ∙ t ∙ ap result_from_control_flow q) h
+
+-- what `?` hands on of it
+pub no_type_stops : (r : Result (Got TypeInfo) Stop) (n : NoTypeInfo) → IsErr r × IsErrAnd r ((StopFromNoTypeInfo.TheImpl.from_gives-value).it n) → stop_ans r ≡ hickup 2
+no_type_stops (Ok g) n e = absurd (false≢true e.0)
+no_type_stops (Err m) n e = ap (λ (m : Stop). stop_ans {A = TypeInfo} (Err m)) e.1
 
 -- ---- rules by clauses: the variant that was matched, e', for the enum's value e
 module _ (big : Bool) (start : ℕ) (s : List ℕ) (at : ℕ) (x : Ans Argument) (info : TypeInfo) where
@@ -66,4 +52,4 @@ module _ (big : Bool) (start : ℕ) (s : List ℕ) (at : ℕ) (x : Ans Argument)
     pub scaled_unsigned : x ≡ scaled big start info width (Numeric.Unsigned w) s at → x ≡ scaled big start info width (Numeric.Unsigned v) s at
     scaled_unsigned f = rw (← e) f
 
-pub ruleset arguments-reading = (values-reading, names-reading, step_type_info, need_type_info, hickup_type_info, step_argument, need_argument, hickup_argument, accepted_is, refused_is, kinded_at, scaled_signed, scaled_unsigned)
+pub ruleset arguments-reading = (values-reading, reading, accepted_is, refused_is, no_type_stops, kinded_at, scaled_signed, scaled_unsigned)

@@ -1,28 +1,25 @@
 -- One argument of a verbose payload: document 01, type info, and Hickup reason 2.
-use Rattle.std.specs.Prelude.{ℕ, Bool, true, false}
-use Rattle.wire.specs.Answer.{Ans, Parser}
-use Rattle.wire.specs.Answer.Ans.{done, need, hickup}
+use Rattle.std.specs.Prelude.{ℕ, Bool, true, false, Result, Option, Some, None}
+use Rattle.wire.specs.Answer.{Parser}
 use Rattle.wire.specs.Parser.{ret, here, choose, ◌>>=◌}
 use Rattle.wire.specs.Number.{number}
 use Rattle.wire.specs.Run.{bytes}
 use Rattle.strings.specs.Text.{text}
-use Rattle.headertype.specs.declared.OptText.{OptText}
 use Rattle.dlt.specs.TypeInfoWord.{wide_length, type_info_of_lem, decoded_ans}
 use Rattle.dlt.specs.declared.FloatWidth.{FloatWidth}
 use Rattle.dlt.specs.declared.TypeInfoKind.{TypeInfoKind}
 use Rattle.dlt.specs.declared.TypeInfo.{TypeInfo}
-use Rattle.dlt.specs.declared.Decoded.{Decoded}
-use Rattle.dlt.specs.declared.OptPoint.{OptPoint}
+use Rattle.dlt.specs.declared.NoTypeInfo.{NoTypeInfo}
 use Rattle.dlt.specs.declared.Value.{Value}
 use Rattle.dlt.specs.declared.Argument.{Argument}
 use Rattle.values.specs.Value.{value, fixed_point_of}
 use Rattle.values.specs.declared.Numeric.{Numeric}
 use Rattle.names.specs.Names.{maybe_name, maybe_names}
-use Rattle.arguments.specs.declared.TypeInfoAns.{TypeInfoAns}
-use Rattle.arguments.specs.declared.ArgumentAns.{ArgumentAns}
+use Rattle.dlt.specs.declared.FixedPoint.{FixedPoint}
+use Rattle.wire.specs.declared.Text.{Text}
 
 -- a type info, or Hickup 2
-unfoldable pub decoded : Decoded → Parser TypeInfo
+unfoldable pub decoded : Result TypeInfo NoTypeInfo → Parser TypeInfo
 decoded d s at = decoded_ans d at
 
 -- the type info word, in payload byte order
@@ -32,7 +29,7 @@ type_info_of big = do
   decoded (type_info_of_lem word)
 
 -- the record, whose end is the position behind the value
-abbrev pub made : ℕ → TypeInfo → OptText → OptText → OptPoint → Value → Parser Argument
+abbrev pub made : ℕ → TypeInfo → Option Text → Option Text → Option FixedPoint → Value → Parser Argument
 made start info name unit point value = do
   end ← here
   ret (record { type_info = info; name = name; unit = unit; fixed_point = point; value = value; start = start; end = end })
@@ -42,7 +39,7 @@ unfoldable pub plain : Bool → ℕ → TypeInfo → Numeric → Parser Argument
 plain big start info sort = do
   names ← maybe_names info.has_variable_info big
   v ← value big sort
-  made start info names.name names.unit OptPoint.Absent v
+  made start info names.name names.unit None v
 
 -- fixed point: quantization and offset come between names and value
 unfoldable pub scaled : Bool → ℕ → TypeInfo → FloatWidth → Numeric → Parser Argument
@@ -50,14 +47,14 @@ scaled big start info width sort = do
   names ← maybe_names info.has_variable_info big
   point ← fixed_point_of big width
   v ← value big sort
-  made start info names.name names.unit (OptPoint.Present point) v
+  made start info names.name names.unit (Some point) v
 
 -- bool has name size and name
 unfoldable pub boolean : Bool → ℕ → TypeInfo → Parser Argument
 boolean big start info = do
   name ← maybe_name info.has_variable_info big
   byte ← number true 1
-  made start info name OptText.Absent OptPoint.Absent (Value.Bool byte)
+  made start info name None None (Value.Bool byte)
 
 -- a value of n bytes: raw, or a string
 unfoldable pub content : Bool → ℕ → Parser Value
@@ -69,7 +66,7 @@ sized raw big start info = do
   size ← number big 2
   name ← maybe_name info.has_variable_info big
   v ← content raw size
-  made start info name OptText.Absent OptPoint.Absent v
+  made start info name None None v
 
 -- what follows the type info, by its kind
 unfoldable pub kinded : Bool → ℕ → TypeInfo → TypeInfoKind → Parser Argument
@@ -88,14 +85,3 @@ argument big = do
   start ← here
   info ← type_info_of big
   kinded big start info info.kind
-
--- the answers that the enums stand for
-abbrev pub type_info_ans : TypeInfoAns → Ans TypeInfo
-type_info_ans (TypeInfoAns.Done g) = done g.v g.next
-type_info_ans (TypeInfoAns.Need n) = need n
-type_info_ans (TypeInfoAns.Hickup r) = hickup r
-
-abbrev pub argument_ans : ArgumentAns → Ans Argument
-argument_ans (ArgumentAns.Done g) = done g.v g.next
-argument_ans (ArgumentAns.Need n) = need n
-argument_ans (ArgumentAns.Hickup r) = hickup r

@@ -3,76 +3,44 @@
 #![tactic(auto)]
 
 ghost use Rattle.std.specs.Prelude.{◌≡◌};
-ghost use Rattle.values.specs.Value.{value_ans};
-ghost use Rattle.arguments.specs.Argument.{type_info_of, boolean, plain, scaled, content, sized, kinded, argument, type_info_ans, argument_ans};
+ghost use Rattle.arguments.specs.Argument.{type_info_of, boolean, plain, scaled, content, sized, kinded, argument};
+ghost use Rattle.wire.specs.Answers.{need_ans, stop_ans};
 
-use dlt::{Argument, Decoded, FloatWidth, OptPoint, OptText, TypeInfo, TypeInfoKind, Value};
-use names::{NameAns, NamesAns};
-use values::{GotValue, Numeric, PointAns, ValueAns};
-use wire::{RangeAns, TextAns, U8Ans, U16Ans, U32Ans};
-
-#[derive(Clone, Copy)]
-pub struct GotTypeInfo {
-    pub v: TypeInfo,
-    pub next: usize,
-}
-
-#[derive(Clone, Copy)]
-pub enum TypeInfoAns {
-    Done(GotTypeInfo),
-    Need(usize),
-    Hickup(u8),
-}
-
-#[derive(Clone, Copy)]
-pub struct GotArgument {
-    pub v: Argument,
-    pub next: usize,
-}
-
-#[derive(Clone, Copy)]
-pub enum ArgumentAns {
-    Done(GotArgument),
-    Need(usize),
-    Hickup(u8),
-}
+use dlt::{Argument, FloatWidth, TypeInfo, TypeInfoKind, Value};
+use values::Numeric;
+use wire::{Got, Need, Stop};
 
 // The type info word.
-pub fn dlt_type_info(s: &[u8], at: usize, big: bool) -> TypeInfoAns
-    ensures { type_info_ans result ≡ type_info_of big s.now at }
+pub fn dlt_type_info(s: &[u8], at: usize, big: bool) -> Result<Got<TypeInfo>, Stop>
+    ensures { stop_ans result ≡ type_info_of big s.now at }
 {
-    let word = match wire::parse_u32(s, at, big) {
-        U32Ans::Done(word) => word,
-        U32Ans::Need(no_word) => return TypeInfoAns::Need(no_word),
-    };
-    match TypeInfo::try_from(word.v) {
-        Decoded::Accepted(info) => TypeInfoAns::Done(GotTypeInfo {
-            v: info,
-            next: word.next,
-        }),
-        Decoded::Refused => TypeInfoAns::Hickup(2),
-    }
+    let word = wire::parse_u32(s, at, big)?;
+    let info = TypeInfo::try_from(word.v)?;
+    Ok(Got {
+        v: info,
+        next: word.next,
+    })
 }
 
 // A bool: name, value.
-fn bool_argument(s: &[u8], at: usize, start: usize, info: TypeInfo, big: bool) -> ArgumentAns
-    ensures { argument_ans result ≡ boolean big start info s.now at }
+fn bool_argument(
+    s: &[u8],
+    at: usize,
+    start: usize,
+    info: TypeInfo,
+    big: bool,
+) -> Result<Got<Argument>, Stop>
+    ensures { stop_ans result ≡ boolean big start info s.now at }
 {
-    let name = match names::maybe_variable_name(s, at, info.has_variable_info, big) {
-        NameAns::Done(name) => name,
-        NameAns::Need(no_name) => return ArgumentAns::Need(no_name),
-    };
-    let byte = match wire::parse_u8(s, name.next) {
-        U8Ans::Done(byte) => byte,
-        U8Ans::Need(no_byte) => return ArgumentAns::Need(no_byte),
-    };
+    let name = names::maybe_variable_name(s, at, info.has_variable_info, big)?;
+    let byte = wire::parse_u8(s, name.next)?;
     let named = name.v;
-    ArgumentAns::Done(GotArgument {
+    Ok(Got {
         v: Argument {
             type_info: info,
             name: named,
-            unit: OptText::Absent,
-            fixed_point: OptPoint::Absent,
+            unit: None,
+            fixed_point: None,
             value: Value::Bool(byte.v),
             start,
             end: byte.next,
@@ -89,27 +57,21 @@ fn plain_argument(
     info: TypeInfo,
     sort: Numeric,
     big: bool,
-) -> ArgumentAns
-    ensures { argument_ans result ≡ plain big start info sort s.now at }
+) -> Result<Got<Argument>, Stop>
+    ensures { stop_ans result ≡ plain big start info sort s.now at }
 {
-    let names = match names::dlt_variable_name_and_unit(s, at, info.has_variable_info, big) {
-        NamesAns::Done(names) => names,
-        NamesAns::Need(no_names) => return ArgumentAns::Need(no_names),
-    };
-    let number = match values::number_value(s, names.next, sort, big) {
-        ValueAns::Done(number) => number,
-        ValueAns::Need(no_number) => return ArgumentAns::Need(no_number),
-    };
+    let names = names::dlt_variable_name_and_unit(s, at, info.has_variable_info, big)?;
+    let number = values::number_value(s, names.next, sort, big)?;
     let both = names.v;
     let name = both.name;
     let unit = both.unit;
     let value = number.v;
-    ArgumentAns::Done(GotArgument {
+    Ok(Got {
         v: Argument {
             type_info: info,
             name,
             unit,
-            fixed_point: OptPoint::Absent,
+            fixed_point: None,
             value,
             start,
             end: number.next,
@@ -127,32 +89,23 @@ fn scaled_argument(
     width: FloatWidth,
     sort: Numeric,
     big: bool,
-) -> ArgumentAns
-    ensures { argument_ans result ≡ scaled big start info width sort s.now at }
+) -> Result<Got<Argument>, Stop>
+    ensures { stop_ans result ≡ scaled big start info width sort s.now at }
 {
-    let names = match names::dlt_variable_name_and_unit(s, at, info.has_variable_info, big) {
-        NamesAns::Done(names) => names,
-        NamesAns::Need(no_names) => return ArgumentAns::Need(no_names),
-    };
-    let scale = match values::dlt_fixed_point(s, names.next, width, big) {
-        PointAns::Done(scale) => scale,
-        PointAns::Need(no_scale) => return ArgumentAns::Need(no_scale),
-    };
-    let number = match values::number_value(s, scale.next, sort, big) {
-        ValueAns::Done(number) => number,
-        ValueAns::Need(no_number) => return ArgumentAns::Need(no_number),
-    };
+    let names = names::dlt_variable_name_and_unit(s, at, info.has_variable_info, big)?;
+    let scale = values::dlt_fixed_point(s, names.next, width, big)?;
+    let number = values::number_value(s, scale.next, sort, big)?;
     let both = names.v;
     let name = both.name;
     let unit = both.unit;
     let point = scale.v;
     let value = number.v;
-    ArgumentAns::Done(GotArgument {
+    Ok(Got {
         v: Argument {
             type_info: info,
             name,
             unit,
-            fixed_point: OptPoint::Present(point),
+            fixed_point: Some(point),
             value,
             start,
             end: number.next,
@@ -162,26 +115,20 @@ fn scaled_argument(
 }
 
 // A value of `n` bytes: raw, or a string.
-fn sized_value(s: &[u8], at: usize, n: usize, raw: bool) -> ValueAns
-    ensures { value_ans result ≡ content raw n s.now at }
+fn sized_value(s: &[u8], at: usize, n: usize, raw: bool) -> Result<Got<Value>, Need>
+    ensures { need_ans result ≡ content raw n s.now at }
 {
     if raw {
-        let run = match wire::take(s, at, n) {
-            RangeAns::Done(run) => run,
-            RangeAns::Need(no_run) => return ValueAns::Need(no_run),
-        };
+        let run = wire::take(s, at, n)?;
         let range = run.v;
-        ValueAns::Done(GotValue {
+        Ok(Got {
             v: Value::Raw(range),
             next: run.next,
         })
     } else {
-        let text = match strings::dlt_zero_terminated_string_intern(s, at, n) {
-            TextAns::Done(text) => text,
-            TextAns::Need(no_text) => return ValueAns::Need(no_text),
-        };
+        let text = strings::dlt_zero_terminated_string_intern(s, at, n)?;
         let told = text.v;
-        ValueAns::Done(GotValue {
+        Ok(Got {
             v: Value::StringVal(told),
             next: text.next,
         })
@@ -196,29 +143,20 @@ fn sized_argument(
     info: TypeInfo,
     raw: bool,
     big: bool,
-) -> ArgumentAns
-    ensures { argument_ans result ≡ sized raw big start info s.now at }
+) -> Result<Got<Argument>, Stop>
+    ensures { stop_ans result ≡ sized raw big start info s.now at }
 {
-    let size = match wire::parse_u16(s, at, big) {
-        U16Ans::Done(size) => size,
-        U16Ans::Need(no_size) => return ArgumentAns::Need(no_size),
-    };
-    let name = match names::maybe_variable_name(s, size.next, info.has_variable_info, big) {
-        NameAns::Done(name) => name,
-        NameAns::Need(no_name) => return ArgumentAns::Need(no_name),
-    };
-    let content = match sized_value(s, name.next, size.v as usize, raw) {
-        ValueAns::Done(content) => content,
-        ValueAns::Need(no_content) => return ArgumentAns::Need(no_content),
-    };
+    let size = wire::parse_u16(s, at, big)?;
+    let name = names::maybe_variable_name(s, size.next, info.has_variable_info, big)?;
+    let content = sized_value(s, name.next, size.v as usize, raw)?;
     let named = name.v;
     let value = content.v;
-    ArgumentAns::Done(GotArgument {
+    Ok(Got {
         v: Argument {
             type_info: info,
             name: named,
-            unit: OptText::Absent,
-            fixed_point: OptPoint::Absent,
+            unit: None,
+            fixed_point: None,
             value,
             start,
             end: content.next,
@@ -228,8 +166,14 @@ fn sized_argument(
 }
 
 // What follows the type info, by its kind. A fixed point's answer has a name of its own, so that the others are written in place (docs/DECISIONS.md).
-fn argument_of(s: &[u8], at: usize, start: usize, info: TypeInfo, big: bool) -> ArgumentAns
-    ensures { argument_ans result ≡ kinded big start info info.kind s.now at }
+fn argument_of(
+    s: &[u8],
+    at: usize,
+    start: usize,
+    info: TypeInfo,
+    big: bool,
+) -> Result<Got<Argument>, Stop>
+    ensures { stop_ans result ≡ kinded big start info info.kind s.now at }
 {
     let kind = info.kind;
     match kind {
@@ -257,14 +201,10 @@ fn argument_of(s: &[u8], at: usize, start: usize, info: TypeInfo, big: bool) -> 
 }
 
 // One argument.
-pub fn dlt_argument(s: &[u8], at: usize, big: bool) -> ArgumentAns
-    ensures { argument_ans result ≡ argument big s.now at }
+pub fn dlt_argument(s: &[u8], at: usize, big: bool) -> Result<Got<Argument>, Stop>
+    ensures { stop_ans result ≡ argument big s.now at }
 {
-    let info = match dlt_type_info(s, at, big) {
-        TypeInfoAns::Done(info) => info,
-        TypeInfoAns::Need(no_info) => return ArgumentAns::Need(no_info),
-        TypeInfoAns::Hickup(bad_info) => return ArgumentAns::Hickup(bad_info),
-    };
+    let info = dlt_type_info(s, at, big)?;
     let type_info = info.v;
     argument_of(s, info.next, at, type_info, big)
 }

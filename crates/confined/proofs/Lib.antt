@@ -1,5 +1,4 @@
 pub mod Reading
 pub mod Laws
 pub mod Worth
-pub mod Determined
 pub mod Whole

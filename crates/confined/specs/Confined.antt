@@ -9,8 +9,6 @@ use Rattle.parse.specs.Message.{routed, body, Answer, judged}
 use Rattle.parse.specs.declared.Headers.{Headers}
 use Rattle.parse.specs.declared.ParsedMessage.{ParsedMessage}
 use Rattle.confined.specs.declared.ConfinedMessage.{ConfinedMessage}
-use Rattle.confined.specs.declared.InsideAns.{InsideAns}
-use Rattle.confined.specs.declared.ConfinedAns.{ConfinedAns}
 
 -- what a rule answers that was shown a part of the bytes alone: the part is used up, however early the value ends, and bytes that are lacking there never
 -- come, so that the answer is the value `over`
@@ -49,18 +47,3 @@ confined_message_of f filter stored = routed f filter stored >>= confined_body_o
 -- step 1 before anything else
 unfoldable pub confined_message_of_lem : List ℕ → Bool → List ℕ → Answer ConfinedMessage
 confined_message_of_lem f stored s = judged (λ filter. confined_message_of f filter stored s 0) (filter_of f)
-
--- the answers that the enums stand for
-abbrev pub inside_ans : InsideAns → Ans ConfinedMessage
-inside_ans (InsideAns.Done g) = done g.v g.next
-inside_ans (InsideAns.Need n) = need n
-inside_ans (InsideAns.Hickup r) = hickup r
-inside_ans InsideAns.Broken = broken
-
-abbrev pub confined_ans : ConfinedAns → Answer ConfinedMessage
-confined_ans ConfinedAns.BadFilter = Answer.bad_filter
-confined_ans ConfinedAns.RetiredTag = Answer.retired_tag
-confined_ans (ConfinedAns.Done g) = Answer.answered (done g.v g.next)
-confined_ans (ConfinedAns.Need n) = Answer.answered (need n)
-confined_ans (ConfinedAns.Hickup r) = Answer.answered (hickup r)
-confined_ans ConfinedAns.Broken = Answer.answered broken

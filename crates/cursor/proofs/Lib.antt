@@ -2,4 +2,4 @@ pub mod Laws
 pub mod Walks
 pub mod Row
 pub mod Raw
-pub mod Determined
+pub mod Passing

@@ -13,16 +13,18 @@ use Rattle.wire.specs.Answer.Ans.{done, need, hickup, broken}
 use Rattle.wire.specs.Parser.{◌>>=◌, ret, here}
 use Rattle.wire.specs.declared.Range.{Range}
 use Rattle.wire.proofs.Step.{then_done, then_need, then_hickup, then_broken, ret_is, here_is}
-use Rattle.headertype.specs.declared.OptRange.{OptRange}
 use Rattle.dlt.specs.declared.Argument.{Argument}
 use Rattle.arguments.specs.Argument.{argument}
 use Rattle.cursor.specs.Row.{mapped, before, onward, walk, counted, handed}
 use Rattle.cursor.specs.Cursor.{listed}
 use Rattle.cursor.specs.Raw.{raw_of_lem, raw_cursor, hand_out_of, first_raw, raw_turn, raw_step_of, raw_called, kept, kept_before, raw_kept}
 use Rattle.cursor.specs.declared.RawCursor.{RawCursor}
-use Rattle.cursor.specs.declared.RawTurn.{RawTurn}
 use Rattle.cursor.proofs.Walks.{mapped_twice, more}
 use Rattle.cursor.proofs.Row.{listed_more}
+use Rattle.std.specs.Prelude.{Option, Some, None, Err}
+use Rattle.cursor.specs.declared.HandedRaw.{HandedRaw}
+use Rattle.wire.specs.Answers.{stop_ans}
+use Rattle.wire.specs.declared.Stop.{Stop}
 
 module _ (big : Bool) (s : List ℕ) (at : ℕ) where
   -- ---- one step, with n arguments left: one and m more
@@ -37,57 +39,61 @@ module _ (big : Bool) (s : List ℕ) (at : ℕ) where
     pub raw_hickup : {r : ℕ} → argument big s at ≡ hickup r → first_raw big n s at ≡ hickup r
     raw_hickup e = some ∙ then_hickup (argument big) _ s at e
 
+    pub raw_stops : (e : Stop) → argument big s at ≡ stop_ans (Err e) → first_raw big n s at ≡ stop_ans (Err e)
+    raw_stops (Stop.Need l) q = raw_need q
+    raw_stops (Stop.Hickup r) q = raw_hickup q
+
     pub raw_broken : argument big s at ≡ broken → first_raw big n s at ≡ broken
     raw_broken e = some ∙ then_broken (argument big) _ s at e
 
-    module _ {a : Argument} {b : ℕ} (e : argument big s at ≡ done a b) {o : OptRange} (q : o ≡ raw_of_lem a.value) where
+    module _ {a : Argument} {b : ℕ} (e : argument big s at ≡ done a b) {o : Option Range} (q : o ≡ raw_of_lem a.value) where
       behind : first_raw big n s at ≡ hand_out_of big m (first_raw big m) o s b
-      behind = some ∙ then_done (argument big) _ s at e ∙ ap (λ (p : OptRange). hand_out_of big m (first_raw big m) p s b) (sym q)
+      behind = some ∙ then_done (argument big) _ s at e ∙ ap (λ (p : Option Range). hand_out_of big m (first_raw big m) p s b) (sym q)
 
-      pub raw_item : {r : Range} → o ≡ OptRange.Present r → first_raw big n s at ≡ done (RawTurn.Item (record { range = r; rest = raw_cursor b m big })) b
-      raw_item t = behind ∙ ap (λ (p : OptRange). hand_out_of big m (first_raw big m) p s b) t ∙ then_done here _ s b (here_is s b) ∙ ret_is _ s b
+      pub raw_item : {r : Range} → o ≡ Some r → first_raw big n s at ≡ done (Some (record { range = r; rest = raw_cursor b m big })) b
+      raw_item t = behind ∙ ap (λ (p : Option Range). hand_out_of big m (first_raw big m) p s b) t ∙ then_done here _ s b (here_is s b) ∙ ret_is _ s b
 
-      pub raw_over : o ≡ OptRange.Absent → first_raw big n s at ≡ first_raw big m s b
-      raw_over t = behind ∙ ap (λ (p : OptRange). hand_out_of big m (first_raw big m) p s b) t
+      pub raw_over : o ≡ None → first_raw big n s at ≡ first_raw big m s b
+      raw_over t = behind ∙ ap (λ (p : Option Range). hand_out_of big m (first_raw big m) p s b) t
 
-  pub raw_none : (n : ℕ) → n < 1 → first_raw big n s at ≡ done RawTurn.End at
+  pub raw_none : (n : ℕ) → n < 1 → first_raw big n s at ≡ done None at
   unfolding first_raw ret
   raw_none n h =
       let z : n ≡ 0 = omega arith in
       ap (λ (k : ℕ). first_raw big k s at) z
 
-pub raw_at_the_end : (c : RawCursor) (s : List ℕ) (at : ℕ) → c.left ≡ 0 → raw_turn c s at ≡ done RawTurn.End at
+pub raw_at_the_end : (c : RawCursor) (s : List ℕ) (at : ℕ) → c.left ≡ 0 → raw_turn c s at ≡ done None at
 raw_at_the_end c s at h = raw_none c.big s at c.left (omega arith)
 
 -- ---- what its calls hand out
 -- the raw values of a list of one more, by whether its first is raw
-abbrev keep : OptRange → Ans (List Range) → Ans (List Range)
-keep (OptRange.Present r) x = before r x
-keep OptRange.Absent x = x
+abbrev keep : Option Range → Ans (List Range) → Ans (List Range)
+keep (Some r) x = before r x
+keep None x = x
 
-keep_is : (a : Argument) (x : Ans (List Argument)) (o : OptRange) → raw_of_lem a.value ≡ o → raw_kept (before a x) ≡ keep o (raw_kept x)
-keep_is a x o q = mapped_twice kept (λ rest. a ∷ rest) x ∙ ap (λ (p : OptRange). mapped (λ rest. kept_before p (kept rest)) x) q ∙ by o
+keep_is : (a : Argument) (x : Ans (List Argument)) (o : Option Range) → raw_of_lem a.value ≡ o → raw_kept (before a x) ≡ keep o (raw_kept x)
+keep_is a x o q = mapped_twice kept (λ rest. a ∷ rest) x ∙ ap (λ (p : Option Range). mapped (λ rest. kept_before p (kept rest)) x) q ∙ by o
   where
-    by : (o : OptRange) → mapped (λ rest. kept_before o (kept rest)) x ≡ keep o (raw_kept x)
-    by (OptRange.Present r) = sym (mapped_twice (λ rest. r ∷ rest) kept x)
-    by OptRange.Absent = refl
+    by : (o : Option Range) → mapped (λ rest. kept_before o (kept rest)) x ≡ keep o (raw_kept x)
+    by (Some r) = sym (mapped_twice (λ rest. r ∷ rest) kept x)
+    by None = refl
 
 module _ (big : Bool) (s : List ℕ) where
   -- a call with n left, where the calls behind it are right for fewer
   module _ (k : RawCursor → Ans (List Range)) where
     call : (n at : ℕ) → ((l b : ℕ) → l < n → k (raw_cursor b l big) ≡ raw_kept (listed big l s b)) → onward k (mapped raw_step_of (first_raw big n s at)) ≡ raw_kept (listed big n s at)
     unfolding listed ret
-    call zero at next = ap (λ (x : Ans RawTurn). onward k (mapped raw_step_of x)) (raw_none big s at 0 (omega arith))
+    call zero at next = ap (λ (x : Ans (Option HandedRaw)). onward k (mapped raw_step_of x)) (raw_none big s at 0 (omega arith))
     call (suc n) at next = by (argument big s at) refl (λ b. call n b (λ l d h. next l d (omega arith))) ∙ ap raw_kept (sym (listed_more big s n at))
       where
-        onto : Ans RawTurn → Ans (List Range)
+        onto : Ans (Option HandedRaw) → Ans (List Range)
         onto x = onward k (mapped raw_step_of x)
 
-        first : (a : Argument) (b : ℕ) → argument big s at ≡ done a b → (o : OptRange) → raw_of_lem a.value ≡ o
+        first : (a : Argument) (b : ℕ) → argument big s at ≡ done a b → (o : Option Range) → raw_of_lem a.value ≡ o
             → ((b : ℕ) → onto (first_raw big n s b) ≡ raw_kept (listed big n s b))
             → onto (first_raw big (suc n) s at) ≡ keep o (raw_kept (listed big n s b))
-        first a b e (OptRange.Present r) q over = ap onto (raw_item big s at (suc n) n refl e (sym q) refl) ∙ ap (before r) (next n b (omega arith))
-        first a b e OptRange.Absent q over = ap onto (raw_over big s at (suc n) n refl e (sym q) refl) ∙ over b
+        first a b e (Some r) q over = ap onto (raw_item big s at (suc n) n refl e (sym q) refl) ∙ ap (before r) (next n b (omega arith))
+        first a b e None q over = ap onto (raw_over big s at (suc n) n refl e (sym q) refl) ∙ over b
 
         by : (x : Ans Argument) → argument big s at ≡ x
             → ((b : ℕ) → onto (first_raw big n s b) ≡ raw_kept (listed big n s b))
@@ -102,10 +108,10 @@ module _ (big : Bool) (s : List ℕ) where
     count zero at less = rw (raw_none big s at 0 (omega arith)) zero-le
     count (suc n) at less = by (argument big s at) refl (λ b. count n b (λ l d h. less l d (omega arith)))
       where
-        first : (a : Argument) (b : ℕ) → argument big s at ≡ done a b → (o : OptRange) → raw_of_lem a.value ≡ o
+        first : (a : Argument) (b : ℕ) → argument big s at ≡ done a b → (o : Option Range) → raw_of_lem a.value ≡ o
             → ((b : ℕ) → counted k (mapped raw_step_of (first_raw big n s b)) ≤ n) → counted k (mapped raw_step_of (first_raw big (suc n) s at)) ≤ suc n
-        first a b e (OptRange.Present r) q over = rw (raw_item big s at (suc n) n refl e (sym q) refl) (let l : k (raw_cursor b n big) ≤ n = less n b (omega arith) in omega arith)
-        first a b e OptRange.Absent q over = rw (raw_over big s at (suc n) n refl e (sym q) refl) (let l : counted k (mapped raw_step_of (first_raw big n s b)) ≤ n = over b in omega arith)
+        first a b e (Some r) q over = rw (raw_item big s at (suc n) n refl e (sym q) refl) (let l : k (raw_cursor b n big) ≤ n = less n b (omega arith) in omega arith)
+        first a b e None q over = rw (raw_over big s at (suc n) n refl e (sym q) refl) (let l : counted k (mapped raw_step_of (first_raw big n s b)) ≤ n = over b in omega arith)
 
         by : (x : Ans Argument) → argument big s at ≡ x → ((b : ℕ) → counted k (mapped raw_step_of (first_raw big n s b)) ≤ n) → counted k (mapped raw_step_of (first_raw big (suc n) s at)) ≤ suc n
         by (done a b) e over = first a b e (raw_of_lem a.value) refl over

@@ -17,10 +17,10 @@ use Rattle.wire.specs.Parser.{times, ◌>>=◌, ret}
 use Rattle.wire.proofs.Step.{then_done, then_need, then_hickup, then_broken, choose_true, choose_false, ret_is}
 use Rattle.dlt.specs.declared.Argument.{Argument}
 use Rattle.arguments.specs.Argument.{argument}
+use Rattle.std.specs.Prelude.{Some, None}
 use Rattle.cursor.specs.Row.{mapped, walk, handed}
 use Rattle.cursor.specs.Cursor.{arguments, listed, cursor, turn, step_of, called, passed}
 use Rattle.cursor.specs.declared.Cursor.{Cursor}
-use Rattle.cursor.specs.declared.Turn.{Turn}
 use Rattle.cursor.proofs.Walks as walks
 use Rattle.cursor.proofs.Walks.{mapped_twice, more, more_is, next, next_is, goes_on, Faithful}
 
@@ -32,9 +32,9 @@ module _ (c : Cursor) (s : List ℕ) (at : ℕ) where
   turn_some : 1 ≤ c.left → mapped step_of (turn c s at) ≡ next (behind c) (argument c.big s at)
   unfolding turn
   turn_some h = ap (mapped step_of) (choose_true _ _ s at (le-leb 1 c.left h))
-      ∙ next_is (argument c.big) (λ a b. Turn.Item (record { argument = a; rest = behind c b })) step_of (behind c) (λ a b. refl) s at
+      ∙ next_is (argument c.big) (λ a b. Some (record { argument = a; rest = behind c b })) step_of (behind c) (λ a b. refl) s at
 
-  pub at_the_end : c.left ≡ 0 → turn c s at ≡ done Turn.End at
+  pub at_the_end : c.left ≡ 0 → turn c s at ≡ done None at
   unfolding turn
   at_the_end h = choose_false _ _ s at (lt-leb 1 c.left (omega arith)) ∙ ret_is _ s at
 

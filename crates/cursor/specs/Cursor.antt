@@ -1,15 +1,12 @@
 -- Arguments in a row: document 01, step 7, "as many arguments as counted", and "a cursor hands out one record per call".
-use Rattle.std.specs.Prelude.{ℕ, zero, suc, ◌-◌, Bool, List, [], ◌∷◌, leb}
+use Rattle.std.specs.Prelude.{ℕ, zero, suc, ◌-◌, Bool, List, [], ◌∷◌, leb, Option, Some, None}
 use Rattle.wire.specs.Answer.{Ans, Parser}
-use Rattle.wire.specs.Answer.Ans.{done, need, hickup}
 use Rattle.wire.specs.Parser.{ret, here, choose, times, ◌>>=◌}
 use Rattle.dlt.specs.declared.Argument.{Argument}
 use Rattle.arguments.specs.Argument.{argument}
 use Rattle.cursor.specs.Row.{Step, item, end, mapped}
 use Rattle.cursor.specs.declared.Cursor.{Cursor}
-use Rattle.cursor.specs.declared.Turn.{Turn}
-use Rattle.cursor.specs.declared.PassAns.{PassAns}
-use Rattle.cursor.specs.declared.TurnAns.{TurnAns}
+use Rattle.cursor.specs.declared.Handed.{Handed}
 
 -- as many arguments as counted, passed
 unfoldable pub arguments : Bool → ℕ → Parser Unit
@@ -27,28 +24,17 @@ abbrev pub cursor : ℕ → ℕ → Bool → Cursor
 cursor at left big = record { at = at; left = left; big = big }
 
 -- one call of the cursor, asked at its position: the next argument while any is left
-unfoldable pub turn : Cursor → Parser Turn
+unfoldable pub turn : Cursor → Parser (Option Handed)
 turn c = choose (leb 1 c.left) (do
   a ← argument c.big
   next ← here
-  ret (Turn.Item (record { argument = a; rest = cursor next (c.left - 1) c.big }))) (ret Turn.End)
-
--- the answers that the enums stand for
-abbrev pub pass_ans : PassAns → Ans Unit
-pass_ans (PassAns.Done b) = done tt b
-pass_ans (PassAns.Need n) = need n
-pass_ans (PassAns.Hickup r) = hickup r
-
-abbrev pub turn_ans : TurnAns → Ans Turn
-turn_ans (TurnAns.Done g) = done g.v g.next
-turn_ans (TurnAns.Need n) = need n
-turn_ans (TurnAns.Hickup r) = hickup r
+  ret (Some (record { argument = a; rest = cursor next (c.left - 1) c.big }))) (ret None)
 
 -- ---- what the theorems of proofs/Row.antt say
 -- a call over these bytes (specs/Row.antt says what its calls hand out)
-abbrev pub step_of : Turn → Step Argument Cursor
-step_of (Turn.Item h) = item h.argument h.rest
-step_of Turn.End = end
+abbrev pub step_of : Option Handed → Step Argument Cursor
+step_of (Some h) = item h.argument h.rest
+step_of None = end
 
 abbrev pub called : List ℕ → Cursor → Ans (Step Argument Cursor)
 called s c = mapped step_of (turn c s c.at)

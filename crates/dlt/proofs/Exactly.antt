@@ -11,13 +11,15 @@ use Rattle.dlt.specs.TypeInfoWord.{type_length_of, float_width_of, signed_of, un
 use Rattle.dlt.specs.Accepted.{accepted, acceptable}
 use Rattle.headertype.proofs.Every.{same, same_is, every_two}
 use Rattle.dlt.proofs.Fitting.{fits}
-use Rattle.dlt.specs.declared.OptKind.{OptKind}
-use Rattle.dlt.specs.declared.Decoded.{Decoded}
+use Rattle.std.specs.Prelude.{Result, Ok, Err, Option, Some, None}
+use Rattle.dlt.specs.declared.NoTypeInfo.{NoTypeInfo}
+use Rattle.dlt.specs.declared.TypeInfo.{TypeInfo}
+use Rattle.dlt.specs.declared.TypeInfoKind.{TypeInfoKind}
 
 -- ---- what decides: the number k of bits 4 to 10, the length l and the fixed-point bit f, tried at all 4,096
-abbrev pub known : OptKind → Bool
-known (OptKind.Present k) = true
-known OptKind.Absent = false
+abbrev pub known : Option TypeInfoKind → Bool
+known (Some k) = true
+known None = false
 
 abbrev right : Bool → ℕ → ℕ → Bool
 right f k l = same (known (kind_by k l f)) (fits k l f)
@@ -75,9 +77,9 @@ word_fits : (w : ℕ) → acceptable w ≡ fits (w / 16 % 128) (w % 16) (flag 40
 unfolding acceptable
 word_fits w = rw (bit4 w, bit5 w, bit6 w, bit7 w, bit8 w, bit9 w, bit10 w)
 
-pub decoded_known : (w : ℕ) (o : OptKind) → accepted (decoded_of w o) ≡ known o
-decoded_known w (OptKind.Present k) = refl
-decoded_known w OptKind.Absent = refl
+pub decoded_known : (w : ℕ) (o : Option TypeInfoKind) → accepted (decoded_of w o) ≡ known o
+decoded_known w (Some k) = refl
+decoded_known w None = refl
 
 -- a word is accepted where exactly one of bits 4, 5, 6, 7, 9 and 10 is set, bit 8 is clear and its length fits, and nowhere else
 pub exactly : (w : ℕ) → accepted (type_info_of_lem w) ≡ acceptable w
@@ -85,9 +87,9 @@ unfolding type_info_of_lem
 exactly w = decoded_known w (kind_of w) ∙ by_kind (flag 4096 w) (w / 16 % 128) (w % 16) (omega arith) (omega arith) ∙ sym (word_fits w)
 
 -- any other word is document 01's Hickup 2
-refused_of : (d : Decoded) (next : ℕ) → accepted d ≡ false → decoded_ans d next ≡ hickup 2
-refused_of (Decoded.Accepted i) next e = let z : ◌≡◌ {A = ℕ} 0 1 = cc in absurd (omega arith)
-refused_of Decoded.Refused next e = refl
+refused_of : (d : Result TypeInfo NoTypeInfo) (next : ℕ) → accepted d ≡ false → decoded_ans d next ≡ hickup 2
+refused_of (Ok i) next e = let z : ◌≡◌ {A = ℕ} 0 1 = cc in absurd (omega arith)
+refused_of (Err r) next e = refl
 
 pub refused : (w next : ℕ) → acceptable w ≡ false → decoded_ans (type_info_of_lem w) next ≡ hickup 2
 refused w next e = refused_of (type_info_of_lem w) next (exactly w ∙ e)

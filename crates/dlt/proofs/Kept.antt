@@ -7,19 +7,19 @@ use mathlib.Core.Bool.{Bool, true, false}
 use lib.Dec.{eqb}
 use borrow.Author.Tests.{eqb-true}
 use Rattle.wire.specs.Parser.{pick}
-use Rattle.headertype.specs.Bits.{bit, flag, either}
+use Rattle.headertype.specs.Bits.{bit, flag, either, one_if_of}
 use Rattle.headertype.proofs.Every.{numbers, every_two}
-use Rattle.headertype.specs.Bits.{one_if_of}
 use Rattle.dlt.specs.TypeInfoWord.{type_length_of, float_width_of, signed_of, unsigned_of, float_of, kind_by, kind_of, coding_of_lem, decoded_of, type_info_of_lem}
 use Rattle.dlt.specs.Accepted.{acceptable}
 use Rattle.dlt.specs.Kept.{kind_word, coding_number_of, decoded_word, integer, kept_length, kept_fixed, packed, kept_bits}
-use Rattle.dlt.specs.declared.OptKind.{OptKind}
 use Rattle.dlt.proofs.Exactly.{known, decoded_known, exactly}
+use Rattle.std.specs.Prelude.{Option, Some, None}
+use Rattle.dlt.specs.declared.TypeInfoKind.{TypeInfoKind}
 
 -- ---- kept: the word can be read back from the answer
-abbrev kind_or : OptKind → ℕ
-kind_or (OptKind.Present k) = kind_word k
-kind_or OptKind.Absent = 0
+abbrev kind_or : Option TypeInfoKind → ℕ
+kind_or (Some k) = kind_word k
+kind_or None = 0
 
 abbrev kind_kept : Bool → ℕ → ℕ → Bool
 kind_kept f k l = pick (known (kind_by k l f)) (eqb (kind_or (kind_by k l f)) (k * 16 + kept_length k l + kept_fixed k (one_if_of f) * 4096)) true
@@ -37,10 +37,10 @@ unfolding coding_of_lem
 coding_kept n h = numbers (λ n. coding_number_of (coding_of_lem n)) (λ n. n) 8 refl n h
 
 module _ (w : ℕ) where
-  word_of : (o : OptKind) → known o ≡ true
+  word_of : (o : Option TypeInfoKind) → known o ≡ true
       → decoded_word (decoded_of w o) ≡ kind_or o + one_if_of (flag 2048 w) * 2048 + one_if_of (flag 8192 w) * 8192 + coding_number_of (coding_of_lem (w / 32768 % 8)) * 32768
-  word_of (OptKind.Present k) e = refl
-  word_of OptKind.Absent e = let z : ◌≡◌ {A = ℕ} 0 1 = cc in absurd (omega arith)
+  word_of (Some k) e = refl
+  word_of None e = let z : ◌≡◌ {A = ℕ} 0 1 = cc in absurd (omega arith)
 
   kind_of_word : (t : Bool) (m n : ℕ) → t ≡ true → pick t (eqb m n) true ≡ true → m ≡ n
   kind_of_word true m n e q = eqb-true m n q
@@ -65,7 +65,7 @@ pick_flag true x = refl
 pick_flag false x = refl
 
 -- the tests for the kinds by their bits, as bools
-kind_drops : (b1 b2 b4 b8 : Bool) (l : ℕ) (f : Bool) (x y : OptKind)
+kind_drops : (b1 b2 b4 b8 : Bool) (l : ℕ) (f : Bool) (x y : Option TypeInfoKind)
     → pick b1 y (pick b2 (signed_of (pick (either (either b2 b4) b8) l 0) (pick (either b2 b4) f false))
     (pick b4 (unsigned_of (pick (either (either b2 b4) b8) l 0) (pick (either b2 b4) f false)) (pick b8 (float_of (pick (either (either b2 b4) b8) l 0)) x)))
     ≡ pick b1 y (pick b2 (signed_of l f) (pick b4 (unsigned_of l f) (pick b8 (float_of l) x)))
@@ -79,9 +79,9 @@ kind_same : (k l : ℕ) (f : Bool) → kind_by k (kept_length k l) (pick (intege
 unfolding kind_by
 kind_same k l f = kind_drops (eqb k 1) (eqb k 2) (eqb k 4) (eqb k 8) l f _ _
 
-decoded_same : (v w : ℕ) (o : OptKind) → v / 32768 % 8 ≡ w / 32768 % 8 → bit 2048 v ≡ bit 2048 w → bit 8192 v ≡ bit 8192 w → decoded_of v o ≡ decoded_of w o
-decoded_same v w (OptKind.Present k) c a b = rw (c, a, b)
-decoded_same v w OptKind.Absent c a b = refl
+decoded_same : (v w : ℕ) (o : Option TypeInfoKind) → v / 32768 % 8 ≡ w / 32768 % 8 → bit 2048 v ≡ bit 2048 w → bit 8192 v ≡ bit 8192 w → decoded_of v o ≡ decoded_of w o
+decoded_same v w (Some k) c a b = rw (c, a, b)
+decoded_same v w None c a b = refl
 
 module _ (k l f v t c : ℕ) (hk : k < 128) (hl : l < 16) (hf : f < 2) (hv : v < 2) (ht : t < 2) (hc : c < 8) where
   bits_of : packed k l f v t c / 16 % 128 ≡ k

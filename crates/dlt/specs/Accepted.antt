@@ -1,12 +1,13 @@
 -- Which type info words are accepted, said by single bits and lengths.
-use Rattle.std.specs.Prelude.{ℕ, ◌+◌, ◌%◌, Bool, true, false, eqb}
+use Rattle.std.specs.Prelude.{ℕ, ◌+◌, ◌%◌, Bool, true, false, eqb, Result, Ok, Err}
 use Rattle.wire.specs.Parser.{pick}
 use Rattle.headertype.specs.Bits.{bit, flag, both, either, from_to}
-use Rattle.dlt.specs.declared.Decoded.{Decoded}
+use Rattle.dlt.specs.declared.NoTypeInfo.{NoTypeInfo}
+use Rattle.dlt.specs.declared.TypeInfo.{TypeInfo}
 
-abbrev pub accepted : Decoded → Bool
-accepted (Decoded.Accepted i) = true
-accepted Decoded.Refused = false
+abbrev pub accepted : Result TypeInfo NoTypeInfo → Bool
+accepted (Ok i) = true
+accepted (Err r) = false
 
 -- how many of bits 4, 5, 6, 7, 9 and 10 are set
 abbrev pub kind_bits_of : ℕ → ℕ

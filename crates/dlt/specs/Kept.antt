@@ -1,14 +1,13 @@
 -- What a decoded type info still says of the bits that it was made of.
-use Rattle.std.specs.Prelude.{ℕ, ◌+◌, ◌*◌, ◌/◌, ◌%◌, Bool, eqb}
+use Rattle.std.specs.Prelude.{ℕ, ◌+◌, ◌*◌, ◌/◌, ◌%◌, Bool, eqb, Result, Ok, Err}
 use Rattle.wire.specs.Parser.{pick}
-use Rattle.headertype.specs.Bits.{bit, either}
-use Rattle.headertype.specs.Bits.{one_if_of}
+use Rattle.headertype.specs.Bits.{bit, either, one_if_of}
 use Rattle.dlt.specs.TypeInfoWord.{wide_length}
 use Rattle.dlt.specs.declared.TypeLength.{TypeLength}
 use Rattle.dlt.specs.declared.TypeInfoKind.{TypeInfoKind}
 use Rattle.dlt.specs.declared.StringCoding.{StringCoding}
 use Rattle.dlt.specs.declared.TypeInfo.{TypeInfo}
-use Rattle.dlt.specs.declared.Decoded.{Decoded}
+use Rattle.dlt.specs.declared.NoTypeInfo.{NoTypeInfo}
 
 -- the length's number, the kind's bits with their length and the fixed-point bit, and the word
 abbrev pub length_number : TypeLength → ℕ
@@ -38,9 +37,9 @@ abbrev pub word_of : TypeInfo → ℕ
 word_of i =
     kind_word i.kind + one_if_of i.has_variable_info * 2048 + one_if_of i.has_trace_info * 8192 + coding_number_of i.coding * 32768
 
-abbrev pub decoded_word : Decoded → ℕ
-decoded_word (Decoded.Accepted i) = word_of i
-decoded_word Decoded.Refused = 0
+abbrev pub decoded_word : Result TypeInfo NoTypeInfo → ℕ
+decoded_word (Ok i) = word_of i
+decoded_word (Err r) = 0
 
 -- what is kept of a word: bits 4 to 10, 11, 13 and 15 to 17; the length of an integer or a float; the fixed-point bit of an integer.
 -- So bits 14 and 18 to 31 are dropped, and with them the length of a bool, a string and raw bytes, and the fixed-point bit of all but integers

@@ -7,17 +7,19 @@
 
 ghost use Rattle.std.specs.Prelude.{◌≡◌, ◌%◌};
 ghost use Rattle.dlt.specs.TypeInfoWord.{type_length_of, float_width_of, wide_length, length_bytes, float_bytes, signed_of, unsigned_of, float_of, kind_of, coding_of_lem, type_info_of_lem};
+ghost use Rattle.wire.specs.declared.Reason.{Reason};
+ghost use Rattle.wire.specs.declared.Stop.{Stop};
 
 pub use headertype::{
-    BIG_ENDIAN_FLAG, DltTimeStamp, Endianness, OptNum, OptText, STORAGE_HEADER_LENGTH,
-    StandardHeader, StorageHeader, WITH_ECU_ID_FLAG, WITH_EXTENDED_HEADER_FLAG,
-    WITH_SESSION_ID_FLAG, WITH_TIMESTAMP_FLAG, calculate_all_headers_length,
+    BIG_ENDIAN_FLAG, DltTimeStamp, Endianness, STORAGE_HEADER_LENGTH, StandardHeader,
+    StorageHeader, WITH_ECU_ID_FLAG, WITH_EXTENDED_HEADER_FLAG, WITH_SESSION_ID_FLAG,
+    WITH_TIMESTAMP_FLAG, calculate_all_headers_length,
 };
 pub use messageinfo::{
     ApplicationTraceType, ControlType, ExtendedHeader, LogLevel, MessageType, NetworkTraceType,
-    OptLevel, VERBOSE_FLAG, u8_to_log_level,
+    VERBOSE_FLAG, u8_to_log_level,
 };
-use wire::{Range, Text};
+use wire::{Range, Reason, Stop, Text};
 
 // ---- values, and the parts of type info
 
@@ -62,12 +64,6 @@ pub enum FloatWidth {
     Width64,
 }
 
-#[derive(Clone, Copy)]
-pub enum OptFloatWidth {
-    Present(FloatWidth),
-    Absent,
-}
-
 pub fn float_width_to_type_length(width: FloatWidth) -> TypeLength
     ensures { result ≡ wide_length width }
 {
@@ -84,12 +80,6 @@ pub enum TypeLength {
     BitLength32,
     BitLength64,
     BitLength128,
-}
-
-#[derive(Clone, Copy)]
-pub enum OptTypeLength {
-    Present(TypeLength),
-    Absent,
 }
 
 impl FloatWidth {
@@ -130,12 +120,6 @@ pub enum TypeInfoKind {
 }
 
 #[derive(Clone, Copy)]
-pub enum OptKind {
-    Present(TypeInfoKind),
-    Absent,
-}
-
-#[derive(Clone, Copy)]
 pub struct TypeInfo {
     pub kind: TypeInfoKind,
     pub coding: StringCoding,
@@ -143,93 +127,102 @@ pub struct TypeInfo {
     pub has_trace_info: bool,
 }
 
-// What a type info word is: Ok and Err of the source.
+// A word that stands for no type info: Hickup 2 where one is read.
 #[derive(Clone, Copy)]
-pub enum Decoded {
-    Accepted(TypeInfo),
-    Refused,
+pub struct NoTypeInfo;
+
+impl From<NoTypeInfo> for Reason {
+    ghost from_gives = { λ n r. r ≡ Reason.TypeInfo };
+
+    fn from(_n: NoTypeInfo) -> Reason {
+        Reason::TypeInfo
+    }
+}
+
+impl From<NoTypeInfo> for Stop {
+    ghost from_gives = { λ n e. e ≡ Stop.Hickup Reason.TypeInfo };
+
+    fn from(_n: NoTypeInfo) -> Stop {
+        Stop::Hickup(Reason::TypeInfo)
+    }
 }
 
 // ---- the type info word
 
-fn type_len(info: u32) -> OptTypeLength
+fn type_len(info: u32) -> Option<TypeLength>
     ensures { result ≡ type_length_of (info % 16) }
 {
     match info % 16 {
-        1 => OptTypeLength::Present(TypeLength::BitLength8),
-        2 => OptTypeLength::Present(TypeLength::BitLength16),
-        3 => OptTypeLength::Present(TypeLength::BitLength32),
-        4 => OptTypeLength::Present(TypeLength::BitLength64),
-        5 => OptTypeLength::Present(TypeLength::BitLength128),
-        _ => OptTypeLength::Absent,
+        1 => Some(TypeLength::BitLength8),
+        2 => Some(TypeLength::BitLength16),
+        3 => Some(TypeLength::BitLength32),
+        4 => Some(TypeLength::BitLength64),
+        5 => Some(TypeLength::BitLength128),
+        _ => None,
     }
 }
 
-fn type_len_float(info: u32) -> OptFloatWidth
+fn type_len_float(info: u32) -> Option<FloatWidth>
     ensures { result ≡ float_width_of (info % 16) }
 {
     match info % 16 {
-        3 => OptFloatWidth::Present(FloatWidth::Width32),
-        4 => OptFloatWidth::Present(FloatWidth::Width64),
-        _ => OptFloatWidth::Absent,
+        3 => Some(FloatWidth::Width32),
+        4 => Some(FloatWidth::Width64),
+        _ => None,
     }
 }
 
-fn signed_kind(info: u32, fixed: bool) -> OptKind
+fn signed_kind(info: u32, fixed: bool) -> Option<TypeInfoKind>
     ensures { result ≡ signed_of (info % 16) fixed }
 {
     if fixed {
         return match type_len_float(info) {
-            OptFloatWidth::Present(width) => {
-                OptKind::Present(TypeInfoKind::SignedFixedPoint(width))
-            }
-            OptFloatWidth::Absent => OptKind::Absent,
+            Some(width) => { Some(TypeInfoKind::SignedFixedPoint(width)) }
+            None => None
         };
     }
     match type_len(info) {
-        OptTypeLength::Present(length) => OptKind::Present(TypeInfoKind::Signed(length)),
-        OptTypeLength::Absent => OptKind::Absent,
+        Some(length) => Some(TypeInfoKind::Signed(length)),
+        None => None,
     }
 }
 
-fn unsigned_kind(info: u32, fixed: bool) -> OptKind
+fn unsigned_kind(info: u32, fixed: bool) -> Option<TypeInfoKind>
     ensures { result ≡ unsigned_of (info % 16) fixed }
 {
     if fixed {
         return match type_len_float(info) {
-            OptFloatWidth::Present(width) => {
-                OptKind::Present(TypeInfoKind::UnsignedFixedPoint(width))
-            }
-            OptFloatWidth::Absent => OptKind::Absent,
+            Some(width) => { Some(TypeInfoKind::UnsignedFixedPoint(width)) }
+            None => None
         };
     }
     match type_len(info) {
-        OptTypeLength::Present(length) => OptKind::Present(TypeInfoKind::Unsigned(length)),
-        OptTypeLength::Absent => OptKind::Absent,
+        Some(length) => Some(TypeInfoKind::Unsigned(length)),
+        None => None,
     }
 }
 
-fn float_kind(info: u32) -> OptKind
+fn float_kind(info: u32) -> Option<TypeInfoKind>
     ensures { result ≡ float_of (info % 16) }
 {
     match type_len_float(info) {
-        OptFloatWidth::Present(width) => OptKind::Present(TypeInfoKind::Float(width)),
-        OptFloatWidth::Absent => OptKind::Absent,
+        Some(width) => Some(TypeInfoKind::Float(width)),
+        None => None,
     }
 }
 
 // Bits 4 to 10 choose the kind.
-fn kind_of(info: u32) -> OptKind
+fn kind_of(info: u32) -> Option<TypeInfoKind>
     ensures { result ≡ kind_of info }
 {
     match info / 16 % 128 {
-        1 => OptKind::Present(TypeInfoKind::Bool),
+        1 => Some(TypeInfoKind::Bool),
         2 => signed_kind(info, info / TYPE_INFO_FIXED_POINT_FLAG % 2 == 1),
         4 => unsigned_kind(info, info / TYPE_INFO_FIXED_POINT_FLAG % 2 == 1),
         8 => float_kind(info),
-        32 => OptKind::Present(TypeInfoKind::StringType),
-        64 => OptKind::Present(TypeInfoKind::Raw),
-        _ => OptKind::Absent,
+        32 => Some(TypeInfoKind::StringType),
+        64 => Some(TypeInfoKind::Raw),
+        _ => None,
     }
 }
 
@@ -246,20 +239,20 @@ fn coding_of(n: u8) -> StringCoding
 
 impl TypeInfo {
     // The type info that a word stands for, or that it stands for none.
-    pub fn try_from(info: u32) -> Decoded
+    pub fn try_from(info: u32) -> Result<TypeInfo, NoTypeInfo>
         ensures { result ≡ type_info_of_lem info }
     {
         match kind_of(info) {
-            OptKind::Present(kind) => {
+            Some(kind) => {
                 let coding = coding_of((info / 32768 % 8) as u8);
-                Decoded::Accepted(TypeInfo {
+                Ok(TypeInfo {
                     kind,
                     coding,
                     has_variable_info: info / TYPE_INFO_VARIABLE_INFO % 2 == 1,
                     has_trace_info: info / TYPE_INFO_TRACE_INFO_FLAG % 2 == 1,
                 })
             }
-            OptKind::Absent => Decoded::Refused,
+            None => Err(NoTypeInfo),
         }
     }
 }
@@ -274,19 +267,13 @@ pub struct FixedPoint {
     pub offset: FixedPointValue,
 }
 
-#[derive(Clone, Copy)]
-pub enum OptPoint {
-    Present(FixedPoint),
-    Absent,
-}
-
 // An argument, and where it stands in the bytes.
 #[derive(Clone, Copy)]
 pub struct Argument {
     pub type_info: TypeInfo,
-    pub name: OptText,
-    pub unit: OptText,
-    pub fixed_point: OptPoint,
+    pub name: Option<Text>,
+    pub unit: Option<Text>,
+    pub fixed_point: Option<FixedPoint>,
     pub value: Value,
     pub start: usize,
     pub end: usize,

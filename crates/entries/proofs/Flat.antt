@@ -18,7 +18,8 @@ use Rattle.walk.proofs.Laws.{counts}
 use Rattle.walk.proofs.Going.{ended, flat_length}
 use Rattle.filter.specs.Filter.{filter_of}
 use Rattle.filter.specs.declared.Filter.{Filter}
-use Rattle.filter.specs.declared.FilterAns.{FilterAns}
+use Rattle.filter.specs.declared.FilterError.{FilterError}
+use Rattle.std.specs.Prelude.{Result, Ok, Err}
 use Rattle.step.specs.Step.{asked}
 use Rattle.index.specs.Index.{limit, flat_form, shown, laid, walk_of, ahead, checked, call, outcome}
 use Rattle.index.specs.Calls.{fresh, totals}
@@ -121,15 +122,15 @@ module _ (f : List ℕ) (n : ℕ) (s : List ℕ) (st : State) (T : List Entry) w
   pub same_call : outcome f n s st (numbers T) ≡ flat_of (call entry_form f n s st T)
   same_call = by (filter_of f) refl
     where
-      by : (v : FilterAns) → filter_of f ≡ v → outcome f n s st (numbers T) ≡ flat_of (call entry_form f n s st T)
-      by (FilterAns.Good filter) e =
+      by : (v : Result Filter FilterError) → filter_of f ≡ v → outcome f n s st (numbers T) ≡ flat_of (call entry_form f n s st T)
+      by (Ok filter) e =
           good_filter flat_form f n s st (numbers T) (filter_of f) filter refl e
           ∙ checks_alike filter
           ∙ sym (ap flat_of (good_filter entry_form f n s st T (filter_of f) filter refl e))
-      by FilterAns.Retired e =
+      by (Err FilterError.Retired) e =
           retired_tag_lem flat_form f n s st (numbers T) (filter_of f) refl e
           ∙ sym (ap flat_of (retired_tag_lem entry_form f n s st T (filter_of f) refl e))
-      by FilterAns.Bad e =
+      by (Err FilterError.Bad) e =
           bad_filter_lem flat_form f n s st (numbers T) (filter_of f) refl e
           ∙ sym (ap flat_of (bad_filter_lem entry_form f n s st T (filter_of f) refl e))
 

@@ -7,7 +7,7 @@ use lib.ListN.{length, take, drop}
 use mathlib.Core.Bool.{true}
 use Rattle.wire.specs.Answer.Ans.{done}
 use Rattle.mark.specs.First.{pattern, find}
-use Rattle.mark.specs.declared.Found.{Found}
+use Rattle.std.specs.Prelude.{Some}
 use Rattle.headertype.specs.HeaderType.{overall_length_of}
 use Rattle.headertype.specs.declared.StandardHeader.{StandardHeader}
 use Rattle.headers.specs.Standard.{standard}
@@ -100,7 +100,7 @@ module _ (f : List ℕ) where
 
   -- it is never for a byte past a declared end
   pub never_past : (n : ℕ) (s : List ℕ) (st : State) (T : List Entry) (v k : ℕ) (h : StandardHeader) (b : ℕ) → (call entry_form f n s st T).answer.end ≡ End.Waits v
-      → find pattern (drop ((call entry_form f n s st T).answer.state.at - st.at) s) 0 ≡ Found.At k
+      → find pattern (drop ((call entry_form f n s st T).answer.state.at - st.at) s) 0 ≡ Some k
       → standard (drop ((call entry_form f n s st T).answer.state.at - st.at) s) (k + 16) ≡ done h b
       → (1 ≤ v) × (length (drop ((call entry_form f n s st T).answer.state.at - st.at) s) + v ≤ k + 16 + overall_length_of h)
   never_past = any.never_past entry_form entry_sound f

@@ -15,7 +15,8 @@ use Rattle.walk.specs.Walk.{Step, Wait, Take, Ends}
 use Rattle.walk.proofs.Going.{here, ended, Going, ends_waiting, ends_full, ends_paused}
 use Rattle.filter.specs.Filter.{filter_of}
 use Rattle.filter.specs.declared.Filter.{Filter}
-use Rattle.filter.specs.declared.FilterAns.{FilterAns}
+use Rattle.filter.specs.declared.FilterError.{FilterError}
+use Rattle.std.specs.Prelude.{Result, Ok, Err}
 use Rattle.step.specs.Step.{asked}
 use Rattle.step.proofs.Fair.{fair}
 use Rattle.index.specs.Index.{limit, Sound, stopped, end_of, ahead, call}
@@ -51,16 +52,16 @@ module _ (filter : Filter) (from cap used at most taken : ℕ) where
     turn_writes e g = rw (lt-leb _ _ h, e, lt-leb _ _ g)
 
 -- and of the first one
-module _ (f s : List ℕ) (st : State) (cap n : ℕ) (v : FilterAns) (e : v ≡ filter_of f) where
-  pub first_bad_filter : v ≡ FilterAns.Bad → stop_of st 0 End.BadFilter ≡ first_of_lem f s st cap n
+module _ (f s : List ℕ) (st : State) (cap n : ℕ) (v : Result Filter FilterError) (e : v ≡ filter_of f) where
+  pub first_bad_filter : v ≡ (Err FilterError.Bad) → stop_of st 0 End.BadFilter ≡ first_of_lem f s st cap n
   unfolding first_of_lem judged_turn
   first_bad_filter q = rw (sym e ∙ q)
 
-  pub first_retired : v ≡ FilterAns.Retired → stop_of st 0 End.RetiredTag ≡ first_of_lem f s st cap n
+  pub first_retired : v ≡ (Err FilterError.Retired) → stop_of st 0 End.RetiredTag ≡ first_of_lem f s st cap n
   unfolding first_of_lem judged_turn
   first_retired q = rw (sym e ∙ q)
 
-  module _ (filter : Filter) (q : v ≡ FilterAns.Good filter) where
+  module _ (filter : Filter) (q : v ≡ Ok filter) where
     pub first_bad_state : cap < st.used → stop_of st 0 End.BadState ≡ first_of_lem f s st cap n
     unfolding first_of_lem judged_turn
     first_bad_state h = rw (sym e ∙ q, lt-ltb _ _ h)
@@ -81,7 +82,7 @@ pub record Writes (f s : List ℕ) (st : State) (n : ℕ) (T₀ T : List Entry) 
   pub as_long : length T ≡ length T₀
   pub inside : t.place < length T
   pub apt : Apt s t
-  pub good : filter_of f ≡ FilterAns.Good t.filter
+  pub good : filter_of f ≡ Ok t.filter
   pub from_is : st.at ≡ t.from
   pub cap_is : length T₀ ≡ t.cap
   pub most_is : n ≡ t.most
@@ -101,7 +102,7 @@ left s t = pick t.go (suc (length s - t.at)) 0
 stored : (T : List Entry) (u : ℕ) (e : Entry) → u < length T → set T u e ≡ over T (1 * u) (e ∷ [])
 stored T u e h = rw (one-mul u) (stores T u (e ∷ []) (omega arith))
 
-module _ (f s : List ℕ) (filter : Filter) (good : filter_of f ≡ FilterAns.Good filter) (st : State) (n : ℕ) (T₀ : List Entry) (free : st.used ≤ length T₀) (fits : st.at + length s ≤ limit) where
+module _ (f s : List ℕ) (filter : Filter) (good : filter_of f ≡ Ok filter) (st : State) (n : ℕ) (T₀ : List Entry) (free : st.used ≤ length T₀) (fits : st.at + length s ≤ limit) where
   walks : call entry_form f n s st T₀ ≡ ahead entry_form f filter n s st T₀
   walks = good_filter entry_form f n s st T₀ (filter_of f) filter refl good ∙ goes_ahead entry_form f n s st T₀ filter free (le-ltb _ _ fits)
 
@@ -160,21 +161,21 @@ module _ (f s : List ℕ) (st : State) (n : ℕ) (T₀ : List Entry) where
   unfolding first_of_lem judged_turn
   begins = judge (filter_of f) refl
     where
-      long : (filter : Filter) → filter_of f ≡ FilterAns.Good filter → st.used ≤ length T₀ → (b : Bool) → ltb limit (st.at + length s) ≡ b
+      long : (filter : Filter) → filter_of f ≡ Ok filter → st.used ≤ length T₀ → (b : Bool) → ltb limit (st.at + length s) ≡ b
           → Due f s st n T₀ T₀ (pick b (stop_of st 0 End.TooLong) (turn_of filter st.at (length T₀) st.used 0 n 0 (asked f filter s)))
       long filter q h true e = ends refl refl (good_filter entry_form f n s st T₀ (filter_of f) filter refl q ∙ too_long entry_form f n s st T₀ filter h e)
       long filter q h false e = due f s filter q st n T₀ h (ltb-false _ _ e) T₀ st.used 0 0 (starts entry_form f filter n s (length T₀) st.at T₀ st.used h)
 
-      used_up : (filter : Filter) → filter_of f ≡ FilterAns.Good filter → (b : Bool) → ltb (length T₀) st.used ≡ b
+      used_up : (filter : Filter) → filter_of f ≡ Ok filter → (b : Bool) → ltb (length T₀) st.used ≡ b
           → Due f s st n T₀ T₀
           (pick b (stop_of st 0 End.BadState) (pick (ltb limit (st.at + length s)) (stop_of st 0 End.TooLong) (turn_of filter st.at (length T₀) st.used 0 n 0 (asked f filter s))))
       used_up filter q true e = ends refl refl (good_filter entry_form f n s st T₀ (filter_of f) filter refl q ∙ bad_state entry_form f n s st T₀ filter (ltb-true _ _ e))
       used_up filter q false e = long filter q (ltb-false _ _ e) (ltb limit (st.at + length s)) refl
 
-      judge : (v : FilterAns) → filter_of f ≡ v → Due f s st n T₀ T₀ (judged_turn f s st (length T₀) n v)
-      judge (FilterAns.Good filter) q = used_up filter q (ltb (length T₀) st.used) refl
-      judge FilterAns.Retired q = ends refl refl (retired_tag_lem entry_form f n s st T₀ (filter_of f) refl q)
-      judge FilterAns.Bad q = ends refl refl (bad_filter_lem entry_form f n s st T₀ (filter_of f) refl q)
+      judge : (v : Result Filter FilterError) → filter_of f ≡ v → Due f s st n T₀ T₀ (judged_turn f s st (length T₀) n v)
+      judge (Ok filter) q = used_up filter q (ltb (length T₀) st.used) refl
+      judge (Err FilterError.Retired) q = ends refl refl (retired_tag_lem entry_form f n s st T₀ (filter_of f) refl q)
+      judge (Err FilterError.Bad) q = ends refl refl (bad_filter_lem entry_form f n s st T₀ (filter_of f) refl q)
 
   module _ (T : List Entry) (t : Turn) (w : Writes f s st n T₀ T t) where
     pub goes : Due f s st n T₀ (set T t.place t.entry) (next_of_lem f s t)

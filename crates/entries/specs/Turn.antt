@@ -1,11 +1,9 @@
 -- A turn of the call by values: what is due. The functions of the crate say these; that the loop which does them is the call is proved.
-use Rattle.std.specs.Prelude.{ℕ, ◌+◌, ◌≤◌, ◌<◌, true, false, List, length, drop, ltb, leb}
+use Rattle.std.specs.Prelude.{ℕ, ◌+◌, ◌≤◌, ◌<◌, true, false, List, length, drop, ltb, leb, Result, Ok, Err, None}
 use Rattle.wire.specs.Parser.{pick}
-use Rattle.headertype.specs.declared.OptRange.{OptRange}
-use Rattle.messageinfo.specs.declared.OptLevel.{OptLevel}
 use Rattle.filter.specs.Filter.{filter_of}
 use Rattle.filter.specs.declared.Filter.{Filter}
-use Rattle.filter.specs.declared.FilterAns.{FilterAns}
+use Rattle.filter.specs.declared.FilterError.{FilterError}
 use Rattle.walk.specs.Walk.{Step, Wait, Take, entry}
 use Rattle.step.specs.Step.{asked}
 use Rattle.index.specs.Index.{limit, stopped}
@@ -17,10 +15,10 @@ use Rattle.entries.specs.Form.{entry_of}
 -- what stands in a turn that ends, where it is of no account
 abbrev pub no_filter_of : Filter
 no_filter_of = record {
-  min_log_level = OptLevel.Absent;
-  app_ids = OptRange.Absent;
-  ecu_ids = OptRange.Absent;
-  context_ids = OptRange.Absent;
+  min_log_level = None;
+  app_ids = None;
+  ecu_ids = None;
+  context_ids = None;
 }
 
 -- the call ends, with this answer
@@ -63,13 +61,13 @@ turn_of filter from cap used at most taken x =
     pick (leb most taken) (stop_of (record { at = from + at; used = used }) taken End.Paused) (said_of filter from cap used at most taken x)
 
 -- the refusals in their order, and then what is due at the beginning
-unfoldable pub judged_turn : List ℕ → List ℕ → State → ℕ → ℕ → FilterAns → Turn
-judged_turn f s st cap n (FilterAns.Good filter) =
+unfoldable pub judged_turn : List ℕ → List ℕ → State → ℕ → ℕ → Result Filter FilterError → Turn
+judged_turn f s st cap n (Ok filter) =
     pick (ltb cap st.used) (stop_of st 0 End.BadState)
     (pick (ltb limit (st.at + length s)) (stop_of st 0 End.TooLong)
     (turn_of filter st.at cap st.used 0 n 0 (asked f filter s)))
-judged_turn f s st cap n FilterAns.Retired = stop_of st 0 End.RetiredTag
-judged_turn f s st cap n FilterAns.Bad = stop_of st 0 End.BadFilter
+judged_turn f s st cap n (Err FilterError.Retired) = stop_of st 0 End.RetiredTag
+judged_turn f s st cap n (Err FilterError.Bad) = stop_of st 0 End.BadFilter
 
 unfoldable pub first_of_lem : List ℕ → List ℕ → State → ℕ → ℕ → Turn
 first_of_lem f s st cap n = judged_turn f s st cap n (filter_of f)

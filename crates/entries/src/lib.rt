@@ -10,10 +10,8 @@ ghost use Rattle.index.specs.Index.{limit, call};
 ghost use Rattle.entries.specs.Form.{entry_form};
 ghost use Rattle.entries.specs.Turn.{stop_of, write_of, turn_of, first_of_lem, next_of_lem, Apt};
 
-use filter::{Filter, FilterAns};
-use headertype::OptRange;
+use filter::{Filter, FilterError};
 use index::{End, Indexed, State};
-use messageinfo::OptLevel;
 use step::Heard;
 
 // An entry of the table. The kinds: 0 item, 1 filtered, 2 hickup, 3 unrecoverable, 4 overrun.
@@ -59,10 +57,10 @@ fn stop(state: State, taken: usize, end: End) -> Turn
         from: 0,
         cap: 0,
         filter: Filter {
-            min_log_level: OptLevel::Absent,
-            app_ids: OptRange::Absent,
-            ecu_ids: OptRange::Absent,
-            context_ids: OptRange::Absent,
+            min_log_level: None,
+            app_ids: None,
+            ecu_ids: None,
+            context_ids: None,
         },
         most: 0,
     }
@@ -145,7 +143,7 @@ fn first(s: &[u8], f: &[u8], state: State, cap: usize, n: usize) -> Turn
     ensures { result ≡ first_of_lem f.now s.now state cap n }
 {
     match filter::read_filter(f) {
-        FilterAns::Good(filter) => {
+        Ok(filter) => {
             if cap < state.used {
                 return stop(state, 0, End::BadState);
             }
@@ -154,8 +152,8 @@ fn first(s: &[u8], f: &[u8], state: State, cap: usize, n: usize) -> Turn
             }
             due(s, f, filter, state.at, cap, state.used, 0, n, 0)
         }
-        FilterAns::Retired => stop(state, 0, End::RetiredTag),
-        FilterAns::Bad => stop(state, 0, End::BadFilter),
+        Err(FilterError::Retired) => stop(state, 0, End::RetiredTag),
+        Err(FilterError::Bad) => stop(state, 0, End::BadFilter),
     }
 }
 

@@ -10,12 +10,10 @@ use borrow.Author.Tests.{le-leb, lt-leb, eq-eqb, ne_eqb}
 use Rattle.wire.specs.Answer.{Ans}
 use Rattle.wire.specs.Answer.Ans.{done, need, hickup, broken}
 use Rattle.wire.specs.Parser.{pick, follow, ret, here, choose, ◌>>=◌}
-use Rattle.wire.specs.Number.{number_of, number, u32_ans}
+use Rattle.wire.specs.Number.{number_of, number}
 use Rattle.wire.specs.Run.{range, bytes}
-use Rattle.wire.specs.declared.U32Ans.{U32Ans}
-use Rattle.wire.specs.declared.GotU32.{GotU32}
 use Rattle.wire.proofs.Step as wire
-use Rattle.wire.proofs.Step.{step, then_done, then_need, then_hickup, fixed_done, ret_is, here_is, fail_is, choose_true, choose_false}
+use Rattle.wire.proofs.Step.{step, then_done, then_need, then_hickup, ret_is, here_is, fail_is, choose_true, choose_false}
 use Rattle.headertype.specs.Bits.{flag}
 use Rattle.headertype.specs.HeaderType.{all_headers}
 use Rattle.messageinfo.specs.MessageInfo.{message_type_by, control_of}
@@ -24,14 +22,12 @@ use Rattle.headers.specs.Standard.{header_of_lem}
 use Rattle.headers.specs.Extended.{extended_of_lem}
 use Rattle.headers.proofs.Inverse.{same_value}
 use Rattle.filter.specs.declared.Filter.{Filter}
-use Rattle.filtering.specs.declared.OptExtended.{OptExtended}
-use Rattle.cursor.specs.Cursor.{arguments, cursor, pass_ans}
+use Rattle.cursor.specs.Cursor.{arguments, cursor}
 use Rattle.cursor.specs.Raw.{raw_cursor}
-use Rattle.cursor.specs.declared.PassAns.{PassAns}
 use Rattle.payload.specs.Payload.{is_verbose_of, count_of, is_network_of, is_control_of, network_type_of, list_of, verbose, control, plain, payload}
 use Rattle.payload.specs.declared.PayloadContent.{PayloadContent}
 use Rattle.parse.specs.Message as parse
-use Rattle.parse.specs.Message.{routed, passed, item, body, message, is_big_of, item_of, headers_of_lem}
+use Rattle.parse.specs.Message.{routed, passed, item, body, message, item_of, headers_of_lem}
 use Rattle.parse.specs.declared.Headers.{Headers}
 use Rattle.parse.specs.declared.ParsedMessage.{ParsedMessage}
 use Rattle.outline.specs.There.{extended_place_of, extended_if, extended_at, standard_at, headers_at}
@@ -45,10 +41,16 @@ use Rattle.verdict.specs.Drops.{drops_outline}
 use Rattle.verdict.proofs.Said.{outline_passed, verdict_said}
 use Rattle.numbers.specs.Layout.{message_laid}
 use Rattle.numbers.specs.Outlined.{outlined_item, outlined_laid}
-use Rattle.exports.specs.Calls.{Outcome, message_shown}
+use Rattle.exports.specs.Calls.{Outcome, message_shown, need_told, stop_told}
 use Rattle.exports.specs.Outlined.{outlined_shown, outlined_payload, dropped_shown}
 use Rattle.exports.specs.declared.Answer.{Answer}
 use Rattle.exports.proofs.Reading.{numbers, left}
+use Rattle.std.specs.Prelude.{Option, Some, None, Result, Ok, Err}
+use Rattle.messageinfo.specs.declared.ExtendedHeader.{ExtendedHeader}
+use Rattle.wire.specs.Answers.{need_ans, passed_ans, reason_number}
+use Rattle.wire.specs.declared.Got.{Got}
+use Rattle.wire.specs.declared.Need.{Need}
+use Rattle.wire.specs.declared.Stop.{Stop}
 
 -- ---- what is shown, by the payload's answer
 module _ (T X : List ℕ) (s : List ℕ) (o : Outline) (a : Answer) (x : Ans PayloadContent) where
@@ -78,20 +80,17 @@ module _ (network : Bool) (at n : ℕ) (big : Bool) where
   unfolding list_of
   list_verbose e = rw e
 
-module _ (T : List ℕ) (s : List ℕ) (o : Outline) (a : Answer) (at : ℕ) (big : Bool) (n : ℕ) (network : Bool) (r : PassAns) (d : pass_ans r ≡ arguments big n s at) where
-  pub hand_list_done : (X : List ℕ) (m : ℕ) (p : PayloadContent) → r ≡ PassAns.Done m → p ≡ list_of network at n big → X ≡ outlined_laid T s o p → a ≡ numbers 0 0 m
+module _ (T : List ℕ) (s : List ℕ) (o : Outline) (a : Answer) (at : ℕ) (big : Bool) (n : ℕ) (network : Bool) (r : Result ℕ Stop) (d : passed_ans r ≡ arguments big n s at) where
+  pub hand_list_done : (X : List ℕ) (m : ℕ) (p : PayloadContent) → r ≡ Ok m → p ≡ list_of network at n big → X ≡ outlined_laid T s o p → a ≡ numbers 0 0 m
       → outlined_shown T s o (verbose big n network s at) ≡ left a X
   unfolding verbose
   hand_list_done X m p q z h e =
-      shown_done T X s o a _ p m (step here _ s at (here_is s at) (step (arguments big n) _ s at (wire.told pass_ans d q) (ret_is _ s m)) ∙ ap (λ (p : PayloadContent). done p m) (sym z)) h e
+      shown_done T X s o a _ p m (step here _ s at (here_is s at) (step (arguments big n) _ s at (wire.told passed_ans d q) (ret_is _ s m)) ∙ ap (λ (p : PayloadContent). done p m) (sym z)) h e
 
-  pub hand_list_need : (m : ℕ) → r ≡ PassAns.Need m → a ≡ numbers 2 m 0 → outlined_shown T s o (verbose big n network s at) ≡ left a T
+  pub hand_list_refused : (w : Stop) → r ≡ Err w → a ≡ stop_told w → outlined_shown T s o (verbose big n network s at) ≡ left a T
   unfolding verbose
-  hand_list_need m q e = shown_need T T s o a _ m (step here _ s at (here_is s at) (then_need (arguments big n) _ s at (wire.told pass_ans d q))) e
-
-  pub hand_list_hickup : (m : ℕ) → r ≡ PassAns.Hickup m → a ≡ numbers 3 m 0 → outlined_shown T s o (verbose big n network s at) ≡ left a T
-  unfolding verbose
-  hand_list_hickup m q e = shown_hickup T T s o a _ m (step here _ s at (here_is s at) (then_hickup (arguments big n) _ s at (wire.told pass_ans d q))) e
+  hand_list_refused (Stop.Need m) q e = shown_need T T s o a _ m (step here _ s at (here_is s at) (then_need (arguments big n) _ s at (wire.told passed_ans d q))) e
+  hand_list_refused (Stop.Hickup m) q e = shown_hickup T T s o a _ (reason_number m) (step here _ s at (here_is s at) (then_hickup (arguments big n) _ s at (wire.told passed_ans d q))) e
 
 -- ---- a payload of n bytes that are there
 module _ (T X : List ℕ) (s : List ℕ) (o : Outline) (a : Answer) (at n : ℕ) (there : at + n ≤ length s) where
@@ -117,22 +116,22 @@ module _ (T X : List ℕ) (s : List ℕ) (o : Outline) (a : Answer) (at n : ℕ)
     hand_plain_short h e = shown_broken T T s o a _ (choose_false _ _ s at (lt-leb 4 n h) ∙ fail_is s at) e
 
     -- r is what reading the id answered
-    module _ (h : 4 ≤ n) (r : U32Ans) (d : u32_ans r ≡ number big 4 s at) where
-      pub hand_plain_done : (g : GotU32) → r ≡ U32Ans.Done g → X ≡ outlined_laid T s o (PayloadContent.NonVerbose g.v (range (at + 4) (n - 4))) → a ≡ numbers 0 0 (at + n)
+    module _ (h : 4 ≤ n) (r : Result (Got ℕ) Need) (d : need_ans r ≡ number big 4 s at) where
+      pub hand_plain_done : (g : Got ℕ) → r ≡ Ok g → X ≡ outlined_laid T s o (PayloadContent.NonVerbose g.v (range (at + 4) (n - 4))) → a ≡ numbers 0 0 (at + n)
           → outlined_shown T s o (plain big n s at) ≡ left a X
       unfolding plain
       hand_plain_done g q x e =
           let v : at + 4 + (n - 4) ≡ at + n = omega arith in
-          let w : number_of big 4 s at ≡ g.v = (same_value (sym (wire.told u32_ans d q) ∙ number_there s at big 4 (omega arith))).0 in
+          let w : number_of big 4 s at ≡ g.v = (same_value (sym (wire.told need_ans d q) ∙ number_there s at big 4 (omega arith))).0 in
           shown_done T X s o a _ (PayloadContent.NonVerbose g.v (range (at + 4) (n - 4))) (at + n)
           (choose_true _ _ s at (le-leb 4 n h)
           ∙ step (number big 4) _ s at (number_there s at big 4 (omega arith))
           (step (bytes (n - 4)) _ s (at + 4) (bytes_there s (at + 4) (n - 4) (omega arith)) (ret_is _ s _))
           ∙ rw (v, w)) x e
 
-      pub hand_plain_need : (m : ℕ) → r ≡ U32Ans.Need m → a ≡ numbers 2 m 0 → outlined_shown T s o (plain big n s at) ≡ left a T
+      pub hand_plain_need : (m : Need) → r ≡ Err m → a ≡ need_told m → outlined_shown T s o (plain big n s at) ≡ left a T
       unfolding plain
-      hand_plain_need m q e = shown_need T T s o a _ m (choose_true _ _ s at (le-leb 4 n h) ∙ then_need (number big 4) _ s at (wire.told u32_ans d q)) e
+      hand_plain_need m q e = shown_need T T s o a _ m.0 (choose_true _ _ s at (le-leb 4 n h) ∙ then_need (number big 4) _ s at (wire.told need_ans d q)) e
 
 -- ---- by the message info
 network_type_lem : (t n : ℕ) → network_type_of (message_type_by t n) ≡ eqb t 2
@@ -146,7 +145,7 @@ network_type_lem (suc (suc (suc (suc t)))) n =
     rw (ne_eqb m 0 (λ e. omega arith), ne_eqb m 1 (λ e. omega arith), ne_eqb m 2 (λ e. omega arith), ne_eqb m 3 (λ e. omega arith))
 
 module _ (big : Bool) (n : ℕ) (s : List ℕ) (at : ℕ) (behind-ten : 10 ≤ at) where
-  payload_by_info : payload big (OptExtended.Present (extended_at s (at - 10))) n s at
+  payload_by_info : payload big (Some (extended_at s (at - 10))) n s at
       ≡ pick (flag 1 (get_or s (at - 10) 0)) (verbose big (get_or s (at - 9) 0) (eqb (get_or s (at - 10) 0 / 2 % 8) 2) s at)
       (pick (eqb (get_or s (at - 10) 0 / 2 % 8) 3) (control n s at) (plain big n s at))
   unfolding payload choose is_verbose_of is_control_of is_network_of count_of extended_at extended_of_lem
@@ -156,25 +155,25 @@ module _ (big : Bool) (n : ℕ) (s : List ℕ) (at : ℕ) (behind-ten : 10 ≤ a
 
   module _ (T : List ℕ) (o : Outline) (x : Outcome) where
     pub by_verbose : get_or s (at - 10) 0 / 1 % 2 ≡ 1 → outlined_shown T s o (verbose big (get_or s (at - 9) 0) (eqb (get_or s (at - 10) 0 / 2 % 8) 2) s at) ≡ x
-        → outlined_shown T s o (payload big (OptExtended.Present (extended_at s (at - 10))) n s at) ≡ x
+        → outlined_shown T s o (payload big (Some (extended_at s (at - 10))) n s at) ≡ x
     by_verbose h e = ap (outlined_shown T s o) (payload_by_info ∙ rw (eq-eqb _ _ h)) ∙ e
 
     pub by_control : (get_or s (at - 10) 0 / 1 % 2 ≡ 1 → ⊥) → get_or s (at - 10) 0 / 2 % 8 ≡ 3 → outlined_shown T s o (control n s at) ≡ x
-        → outlined_shown T s o (payload big (OptExtended.Present (extended_at s (at - 10))) n s at) ≡ x
+        → outlined_shown T s o (payload big (Some (extended_at s (at - 10))) n s at) ≡ x
     by_control h g e = ap (outlined_shown T s o) (payload_by_info ∙ rw (ne_eqb _ _ h, eq-eqb _ _ g)) ∙ e
 
     pub by_plain : (get_or s (at - 10) 0 / 1 % 2 ≡ 1 → ⊥) → (get_or s (at - 10) 0 / 2 % 8 ≡ 3 → ⊥) → outlined_shown T s o (plain big n s at) ≡ x
-        → outlined_shown T s o (payload big (OptExtended.Present (extended_at s (at - 10))) n s at) ≡ x
+        → outlined_shown T s o (payload big (Some (extended_at s (at - 10))) n s at) ≡ x
     by_plain h g e = ap (outlined_shown T s o) (payload_by_info ∙ rw (ne_eqb _ _ h, ne_eqb _ _ g)) ∙ e
 
 -- ---- by the type byte: a is what a call gave for all headers
-extended_same : (s : List ℕ) (t i a : ℕ) → a ≡ all_headers t → flag 1 t ≡ true → OptExtended.Present (extended_at s (i + 16 + a - 10)) ≡ extended_if (flag 1 t) s (extended_place_of t (i + 16))
+extended_same : (s : List ℕ) (t i a : ℕ) → a ≡ all_headers t → flag 1 t ≡ true → Some (extended_at s (i + 16 + a - 10)) ≡ extended_if (flag 1 t) s (extended_place_of t (i + 16))
 extended_same s t i a e q =
     let z : pick (flag 1 t) (extended_place_of t (i + 16) + 10) (extended_place_of t (i + 16)) ≡ extended_place_of t (i + 16) + 10 = rw q in
     let p : i + 16 + a - 10 ≡ extended_place_of t (i + 16) = omega (arith, z, headers_end_lem t (i + 16), e) in
-    rw q (ap (λ (n : ℕ). OptExtended.Present (extended_at s n)) p)
+    rw q (ap (λ (n : ℕ). Some (extended_at s n)) p)
 
-plain_absent : (big : Bool) (n : ℕ) (s : List ℕ) (at : ℕ) → payload big OptExtended.Absent n s at ≡ plain big n s at
+plain_absent : (big : Bool) (n : ℕ) (s : List ℕ) (at : ℕ) → payload big None n s at ≡ plain big n s at
 unfolding payload choose is_verbose_of is_control_of
 plain_absent big n s at = refl
 
@@ -183,18 +182,18 @@ module _ (T : List ℕ) (s : List ℕ) (o : Outline) (a : ℕ) (is_all : a ≡ a
   t = o.header_type
 
   payload_extended : o.header_type / 1 % 2 ≡ 1
-      → outlined_payload s o ≡ payload (flag 2 t) (OptExtended.Present (extended_at s (o.place + 16 + a - 10))) (o.length - a) s (o.place + 16 + a)
+      → outlined_payload s o ≡ payload (flag 2 t) (Some (extended_at s (o.place + 16 + a - 10))) (o.length - a) s (o.place + 16 + a)
   unfolding outlined_payload
   payload_extended h =
-      ap (λ (y : OptExtended). payload (flag 2 t) y (o.length - all_headers t) s (o.place + 16 + all_headers t)) (sym (extended_same s t o.place a is_all (eq-eqb _ _ h)))
-      ∙ ap (λ (m : ℕ). payload (flag 2 t) (OptExtended.Present (extended_at s (o.place + 16 + a - 10))) (o.length - m) s (o.place + 16 + m)) (sym is_all)
+      ap (λ (y : Option ExtendedHeader). payload (flag 2 t) y (o.length - all_headers t) s (o.place + 16 + all_headers t)) (sym (extended_same s t o.place a is_all (eq-eqb _ _ h)))
+      ∙ ap (λ (m : ℕ). payload (flag 2 t) (Some (extended_at s (o.place + 16 + a - 10))) (o.length - m) s (o.place + 16 + m)) (sym is_all)
 
   payload_plain : (o.header_type / 1 % 2 ≡ 1 → ⊥) → outlined_payload s o ≡ plain (flag 2 t) (o.length - a) s (o.place + 16 + a)
   unfolding outlined_payload
   payload_plain h = rw (ne_eqb _ _ h, ← is_all) (plain_absent (flag 2 t) (o.length - a) s (o.place + 16 + a))
 
   pub outline_extended : o.header_type / 1 % 2 ≡ 1
-      → outlined_shown T s o (payload (flag 2 o.header_type) (OptExtended.Present (extended_at s (o.place + 16 + a - 10))) (o.length - a) s (o.place + 16 + a)) ≡ x
+      → outlined_shown T s o (payload (flag 2 o.header_type) (Some (extended_at s (o.place + 16 + a - 10))) (o.length - a) s (o.place + 16 + a)) ≡ x
       → outlined_shown T s o (outlined_payload s o) ≡ x
   outline_extended h e = ap (outlined_shown T s o) (payload_extended h) ∙ e
 
@@ -274,4 +273,4 @@ module _ (s : List ℕ) (r : OutlineAns) (e : r ≡ outline_of s) (T X : List �
   unfolding message_shown message
   glance_nowhere n q d = rw (is-stored, then_need (routed f filter true) body s 0 (missed_routed f filter s n (missed_of s r e n q)), d)
 
-pub ruleset outlined = (list_trace, list_verbose, hand_list_done, hand_list_need, hand_list_hickup, hand_control_done, hand_control_short, hand_plain_short, hand_plain_done, hand_plain_need, by_verbose, by_control, by_plain, outline_extended, outline_plain, outline_filtered, outline_passed, glance_done, glance_filtered, glance_hickup, glance_nowhere)
+pub ruleset outlined = (list_trace, list_verbose, hand_list_done, hand_list_refused, hand_control_done, hand_control_short, hand_plain_short, hand_plain_done, hand_plain_need, by_verbose, by_control, by_plain, outline_extended, outline_plain, outline_filtered, outline_passed, glance_done, glance_filtered, glance_hickup, glance_nowhere)

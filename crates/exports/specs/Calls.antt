@@ -1,19 +1,20 @@
 -- What each call answers, and what it leaves in the slice that it was lent. A slice that is too short is told first, by number 15, whatever the
 -- other arguments are; then come document 01's numbers. Only number 0 changes what was lent.
-use Rattle.std.specs.Prelude.{ℕ, Bool, List, length, leb}
+use Rattle.std.specs.Prelude.{ℕ, Bool, List, length, leb, Option, Some, None}
 use Rattle.wire.specs.Answer.{Ans, Carried, Numbered, numbered, carried_number, used_to}
 use Rattle.wire.specs.Parser.{pick}
-use Rattle.mark.specs.declared.Found.{Found}
-use Rattle.storage.specs.declared.OptCount.{OptCount}
+use Rattle.wire.specs.Answers.{reason_number}
+use Rattle.wire.specs.declared.Need.{Need}
+use Rattle.wire.specs.declared.Stop.{Stop}
+use Rattle.wire.specs.declared.Halt.{Halt}
+use Rattle.wire.specs.declared.Reason.{Reason}
+use Rattle.filter.specs.declared.FilterError.{FilterError}
 use Rattle.cursor.specs.Cursor.{turn}
 use Rattle.cursor.specs.declared.Cursor.{Cursor}
-use Rattle.cursor.specs.declared.Turn.{Turn}
 use Rattle.cursor.specs.Raw.{raw_turn}
 use Rattle.cursor.specs.declared.RawCursor.{RawCursor}
-use Rattle.cursor.specs.declared.RawTurn.{RawTurn}
 use Rattle.signals.specs.Signals.{signal_turn}
 use Rattle.signals.specs.declared.SignalCursor.{SignalCursor}
-use Rattle.signals.specs.declared.SignalTurn.{SignalTurn}
 use Rattle.parse.specs.Message as parse
 use Rattle.parse.specs.Message.{message_of, numbered_answer}
 use Rattle.parse.specs.declared.ParsedMessage.{ParsedMessage}
@@ -24,6 +25,9 @@ use Rattle.index.specs.Index as index
 use Rattle.index.specs.Index.{number_of, need_of, outcome}
 use Rattle.exports.specs.declared.Answer.{Answer}
 use Rattle.exports.specs.declared.IndexAnswer.{IndexAnswer}
+use Rattle.cursor.specs.declared.HandedRaw.{HandedRaw}
+use Rattle.signals.specs.declared.HandedSignal.{HandedSignal}
+use Rattle.cursor.specs.declared.Handed.{Handed}
 
 pub record Outcome : Type 0 where
   pub answer : Answer
@@ -31,6 +35,26 @@ pub record Outcome : Type 0 where
 
 abbrev pub answered : ℕ → ℕ → ℕ → Answer
 answered n value used = record { number = n; value = value; used = used }
+
+-- a refusal as a host is told it: document 01's number, and the need or the reason
+abbrev pub need_told : Need → Answer
+need_told n = answered 2 n.0 0
+
+abbrev pub reason_told : Reason → Answer
+reason_told r = answered 3 (reason_number r) 0
+
+abbrev pub stop_told : Stop → Answer
+stop_told (Stop.Need n) = answered 2 n 0
+stop_told (Stop.Hickup r) = reason_told r
+
+abbrev pub halt_told : Halt → Answer
+halt_told (Halt.Need n) = answered 2 n 0
+halt_told (Halt.Hickup r) = reason_told r
+halt_told Halt.Broken = answered 4 0 0
+
+abbrev pub filter_told : FilterError → Answer
+filter_told FilterError.Bad = answered 1 0 0
+filter_told FilterError.Retired = answered 13 0 0
 
 abbrev pub told : ℕ → ℕ → ℕ → List ℕ → Outcome
 told n value used T = record { answer = answered n value used; out = T }
@@ -61,45 +85,45 @@ unfoldable pub message_call : List ℕ → Bool → List ℕ → List ℕ → Ou
 message_call f stored s T = pick (leb message_size (length T)) (message_shown T (message_of f stored s)) (short message_size T)
 
 -- ---- dlt_argument: value 1 and the numbers, or value 0 at the end
-abbrev pub turn_number : Turn → ℕ
-turn_number (Turn.Item h) = 1
-turn_number Turn.End = 0
+abbrev pub turn_number : Option Handed → ℕ
+turn_number (Some h) = 1
+turn_number None = 0
 
-abbrev pub turn_laid : List ℕ → Turn → List ℕ
-turn_laid T (Turn.Item h) = argument_laid T h.rest.at h.rest.left h.rest.big h.argument
-turn_laid T Turn.End = T
+abbrev pub turn_laid : List ℕ → Option Handed → List ℕ
+turn_laid T (Some h) = argument_laid T h.rest.at h.rest.left h.rest.big h.argument
+turn_laid T None = T
 
-unfoldable pub turn_shown : List ℕ → Ans Turn → Outcome
+unfoldable pub turn_shown : List ℕ → Ans (Option Handed) → Outcome
 turn_shown T x = shown_in turn_number (turn_laid T) T (numbered x)
 
 unfoldable pub argument_call : Cursor → List ℕ → List ℕ → Outcome
 argument_call c s T = pick (leb argument_size (length T)) (turn_shown T (turn c s c.at)) (short argument_size T)
 
 -- ---- dlt_raw_value, likewise: of a network trace's arguments the raw values alone
-abbrev pub raw_number : RawTurn → ℕ
-raw_number (RawTurn.Item h) = 1
-raw_number RawTurn.End = 0
+abbrev pub raw_number : Option HandedRaw → ℕ
+raw_number (Some h) = 1
+raw_number None = 0
 
-abbrev pub raw_turn_laid : List ℕ → RawTurn → List ℕ
-raw_turn_laid T (RawTurn.Item h) = raw_laid T h.rest h.range
-raw_turn_laid T RawTurn.End = T
+abbrev pub raw_turn_laid : List ℕ → Option HandedRaw → List ℕ
+raw_turn_laid T (Some h) = raw_laid T h.rest h.range
+raw_turn_laid T None = T
 
-unfoldable pub raw_shown : List ℕ → Ans RawTurn → Outcome
+unfoldable pub raw_shown : List ℕ → Ans (Option HandedRaw) → Outcome
 raw_shown T x = shown_in raw_number (raw_turn_laid T) T (numbered x)
 
 unfoldable pub raw_call : RawCursor → List ℕ → List ℕ → Outcome
 raw_call c s T = pick (leb raw_size (length T)) (raw_shown T (raw_turn c s c.at)) (short raw_size T)
 
 -- ---- dlt_signal, likewise
-abbrev pub signal_number : SignalTurn → ℕ
-signal_number (SignalTurn.Item h) = 1
-signal_number SignalTurn.End = 0
+abbrev pub signal_number : Option HandedSignal → ℕ
+signal_number (Some h) = 1
+signal_number None = 0
 
-abbrev pub signal_laid : List ℕ → SignalTurn → List ℕ
-signal_laid T (SignalTurn.Item h) = argument_laid T h.rest.at h.rest.word h.rest.big h.argument
-signal_laid T SignalTurn.End = T
+abbrev pub signal_laid : List ℕ → Option HandedSignal → List ℕ
+signal_laid T (Some h) = argument_laid T h.rest.at h.rest.word h.rest.big h.argument
+signal_laid T None = T
 
-unfoldable pub signal_shown : List ℕ → Ans SignalTurn → Outcome
+unfoldable pub signal_shown : List ℕ → Ans (Option HandedSignal) → Outcome
 signal_shown T x = shown_in signal_number (signal_laid T) T (numbered x)
 
 unfoldable pub signal_call : List ℕ → SignalCursor → List ℕ → List ℕ → Outcome
@@ -121,16 +145,16 @@ index_call f n s at used T = index_shown (outcome f n s (record { at = at; used 
 
 -- ---- the calls that are lent nothing to write into
 -- dlt_forward_to_next_storage_header: value 1 and the place, or 0
-abbrev pub found_answer : Found → Answer
-found_answer (Found.At i) = answered 0 1 i
-found_answer Found.Nothing = answered 0 0 0
+abbrev pub found_answer : Option ℕ → Answer
+found_answer (Some i) = answered 0 1 i
+found_answer None = answered 0 0 0
 
 -- dlt_consume_msg: the count, 0 where there is none
-abbrev pub count_number : OptCount → ℕ
-count_number (OptCount.Present n) = n
-count_number OptCount.Absent = 0
+abbrev pub count_number : Option ℕ → ℕ
+count_number (Some n) = n
+count_number None = 0
 
-unfoldable pub consume_answer : Ans OptCount → Answer
+unfoldable pub consume_answer : Ans (Option ℕ) → Answer
 consume_answer x = shown count_number (numbered x)
 
 -- dlt_construct_arguments: how many

@@ -11,42 +11,42 @@ use Rattle.wire.specs.declared.Text.{Text}
 use Rattle.wire.proofs.Laws.{then_law, choose_law, here_law, stable, honest}
 use Rattle.wire.proofs.Rules.{laws}
 use Rattle.headertype.specs.HeaderType.{overall_length_of}
-use Rattle.headertype.specs.declared.OptText.{OptText}
 use Rattle.headertype.specs.declared.StandardHeader.{StandardHeader}
 use Rattle.headers.specs.Standard.{standard}
 use Rattle.headers.specs.Extended.{extended}
 use Rattle.headers.proofs.Laws.{standard_law, extended_law}
 use Rattle.headers.proofs.Inverse.{split, of_ret, ecu_inside, ids_inside}
-use Rattle.storage.specs.declared.OptStored.{OptStored}
 use Rattle.storage.proofs.Laws.{storage_law}
 use Rattle.filter.specs.declared.Filter.{Filter}
-use Rattle.filtering.specs.declared.OptExtended.{OptExtended}
 use Rattle.filtering.proofs.Stable.{IdsIn, filtered_same}
 use Rattle.payload.proofs.Laws.{payload_law}
 use Rattle.parse.specs.Message.{seen, maybe_extended_of, headers_of_lem, finished, headers, routed, passed, item, body, message}
 use Rattle.parse.specs.declared.Headers.{Headers}
 use Rattle.parse.proofs.Nothing.{headers_of_nothing}
 use Rattle.facts.proofs.At.{LawfulAt, lawful_at, at_lawful, then_at, seen_at, from_at}
+use Rattle.std.specs.Prelude.{Option, Some, None}
+use Rattle.storage.specs.declared.Stored.{Stored}
+use Rattle.messageinfo.specs.declared.ExtendedHeader.{ExtendedHeader}
 
 pub maybe_extended_law : (t : Bool) → Lawful (maybe_extended_of t)
 unfolding maybe_extended_of
 maybe_extended_law t = search (laws, extended_law) depth 20
 
-pub maybe_ids : (b : Bool) (e : OptExtended) (n : ℕ) (s : List ℕ) (at : ℕ) → at ≤ length s → maybe_extended_of b s at ≡ done e n → IdsIn s e
+pub maybe_ids : (b : Bool) (e : Option ExtendedHeader) (n : ℕ) (s : List ℕ) (at : ℕ) → at ≤ length s → maybe_extended_of b s at ≡ done e n → IdsIn s e
 unfolding maybe_extended_of choose
 maybe_ids true e n s at h q =
-    let r = split extended (λ x. ret (OptExtended.Present x)) s at q in
-    let o = of_ret s r.mid (OptExtended.Present r.value) r.second in
+    let r = split extended (λ x. ret (Some x)) s at q in
+    let o = of_ret s r.mid (Some r.value) r.second in
     rw o.0 (ids_inside r.value r.mid s at h r.first)
-maybe_ids false e n s at h q = rw (of_ret s at OptExtended.Absent q).0 tt
+maybe_ids false e n s at h q = rw (of_ret s at None q).0 tt
 
-module _ (f : List ℕ) (filter : Filter) (stored : OptStored) where
-  headers_same : (h : StandardHeader) (e : OptExtended) (s t : List ℕ) → IdsIn s e → ((r : Text) → h.ecu_id ≡ OptText.Present r → r.place.start + r.place.len ≤ length s)
+module _ (f : List ℕ) (filter : Filter) (stored : Option Stored) where
+  headers_same : (h : StandardHeader) (e : Option ExtendedHeader) (s t : List ℕ) → IdsIn s e → ((r : Text) → h.ecu_id ≡ Some r → r.place.start + r.place.len ≤ length s)
       → headers_of_lem f filter stored h e (s ++ t) ≡ headers_of_lem f filter stored h e s
   unfolding headers_of_lem
   headers_same h e s t i r = rw (filtered_same f s t filter e h.ecu_id i r)
 
-  finished_at : (start : ℕ) (h : StandardHeader) (s : List ℕ) (at : ℕ) → at ≤ length s → ((r : Text) → h.ecu_id ≡ OptText.Present r → r.place.start + r.place.len ≤ length s)
+  finished_at : (start : ℕ) (h : StandardHeader) (s : List ℕ) (at : ℕ) → at ≤ length s → ((r : Text) → h.ecu_id ≡ Some r → r.place.start + r.place.len ≤ length s)
       → LawfulAt (finished f filter stored start h) s at
   unfolding finished
   finished_at start h s at l ecu =
@@ -66,8 +66,8 @@ pub routed_law : (f : List ℕ) (filter : Filter) (t : Bool) → Lawful (routed 
 unfolding routed
 routed_law f filter t =
     choose_law t _ _
-    (storage_law (λ o. headers f filter o) (λ o. headers_law f filter o) (headers_of_nothing f filter OptStored.Absent))
-    (headers_law f filter OptStored.Absent)
+    (storage_law (λ o. headers f filter o) (λ o. headers_law f filter o) (headers_of_nothing f filter None))
+    (headers_law f filter None)
 
 passed_law : (n : ℕ) → Lawful (passed n)
 unfolding passed

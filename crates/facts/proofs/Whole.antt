@@ -8,7 +8,8 @@ use lib.ListN.{length}
 use Rattle.wire.specs.Answer.{Ans, Carried, Numbered, numbered}
 use Rattle.filter.specs.Filter.{filter_of}
 use Rattle.filter.specs.declared.Filter.{Filter}
-use Rattle.filter.specs.declared.FilterAns.{FilterAns}
+use Rattle.filter.specs.declared.FilterError.{FilterError}
+use Rattle.std.specs.Prelude.{Result, Ok, Err}
 use Rattle.parse.specs.Message.{Answer, judged, message_of, numbered_answer}
 use Rattle.parse.specs.declared.ParsedMessage.{ParsedMessage}
 use Rattle.facts.proofs.Laws.{message_stable, message_honest}
@@ -16,18 +17,18 @@ use Rattle.facts.proofs.Vectors.{Sum, of_answer, sum, item_of_lem, sums, p1, p2,
 
 -- the two facts pass through step 1, of any rule: x is what it answers, y what it answers with more bytes
 module _ {A : Type 0} (x y : Filter → Ans A) where
-  pub judged_stable : ((filter : Filter) → ((numbered (x filter)).number ≡ 2 → ⊥) → y filter ≡ x filter) → (v : FilterAns) → ((numbered_answer (judged x v)).number ≡ 2 → ⊥) → judged y v ≡ judged x v
+  pub judged_stable : ((filter : Filter) → ((numbered (x filter)).number ≡ 2 → ⊥) → y filter ≡ x filter) → (v : Result Filter FilterError) → ((numbered_answer (judged x v)).number ≡ 2 → ⊥) → judged y v ≡ judged x v
   unfolding judged
-  judged_stable h (FilterAns.Good filter) w = ap Answer.answered (h filter w)
-  judged_stable h FilterAns.Retired w = refl
-  judged_stable h FilterAns.Bad w = refl
+  judged_stable h (Ok filter) w = ap Answer.answered (h filter w)
+  judged_stable h (Err FilterError.Retired) w = refl
+  judged_stable h (Err FilterError.Bad) w = refl
 
   pub judged_honest : (n : ℕ) → ((filter : Filter) → numbered (x filter) ≡ record { number = 2; carries = Carried.need n } → (numbered (y filter)).number ≡ 2)
-      → (v : FilterAns) → numbered_answer (judged x v) ≡ record { number = 2; carries = Carried.need n } → (numbered_answer (judged y v)).number ≡ 2
+      → (v : Result Filter FilterError) → numbered_answer (judged x v) ≡ record { number = 2; carries = Carried.need n } → (numbered_answer (judged y v)).number ≡ 2
   unfolding judged
-  judged_honest n h (FilterAns.Good filter) e = h filter e
-  judged_honest n h FilterAns.Retired e = absurd (omega (arith, ap (λ (x : Numbered A). x.number) e))
-  judged_honest n h FilterAns.Bad e = absurd (omega (arith, ap (λ (x : Numbered A). x.number) e))
+  judged_honest n h (Ok filter) e = h filter e
+  judged_honest n h (Err FilterError.Retired) e = absurd (omega (arith, ap (λ (x : Numbered A). x.number) e))
+  judged_honest n h (Err FilterError.Bad) e = absurd (omega (arith, ap (λ (x : Numbered A). x.number) e))
 
 module _ (f : List ℕ) (stored : Bool) (s t : List ℕ) where
   -- an answer other than Incomplete is the same with more bytes added

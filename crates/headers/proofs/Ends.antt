@@ -13,29 +13,29 @@ use Rattle.wire.specs.Number.{number, number_of}
 use Rattle.strings.specs.Text.{ended_text, identified}
 use Rattle.headertype.specs.Bits.{flag, bit, one_if_of}
 use Rattle.headertype.specs.HeaderType.{text_bit_of, num_bit_of, all_headers, header_type_byte_of, overall_length_of}
-use Rattle.headertype.specs.declared.OptNum.{OptNum}
-use Rattle.headertype.specs.declared.OptText.{OptText}
 use Rattle.headertype.specs.declared.StandardHeader.{StandardHeader}
 use Rattle.headertype.proofs.Lengths.{one_bit, all_headers_lem}
 use Rattle.messageinfo.specs.declared.ExtendedHeader.{ExtendedHeader}
 use Rattle.headers.specs.Standard.{maybe_id, maybe_number_of, header_of_lem, flagged, standard}
 use Rattle.headers.specs.Extended.{extended_of_lem, named, extended}
 use Rattle.headers.proofs.Inverse.{split, of_ret, of_refuse, of_number, of_id, of_maybe_id, of_maybe_number}
+use Rattle.std.specs.Prelude.{Option, Some, None}
+use Rattle.wire.specs.declared.Text.{Text}
 
 -- ---- a field that is there if flagged: its bit, and four bytes for it
-id_bit : (b : Bool) (o : OptText) (s : List ℕ) (at : ℕ) → o ≡ pick b (OptText.Present (ended_text 4 s at)) OptText.Absent → text_bit_of o ≡ one_if_of b
+id_bit : (b : Bool) (o : Option Text) (s : List ℕ) (at : ℕ) → o ≡ pick b (Some (ended_text 4 s at)) None → text_bit_of o ≡ one_if_of b
 id_bit true o s at e = rw e
 id_bit false o s at e = rw e
 
-num_bit_lem : (b : Bool) (o : OptNum) (n : ℕ) → o ≡ pick b (OptNum.Present n) OptNum.Absent → num_bit_of o ≡ one_if_of b
+num_bit_lem : (b : Bool) (o : Option ℕ) (n : ℕ) → o ≡ pick b (Some n) None → num_bit_of o ≡ one_if_of b
 num_bit_lem true o n e = rw e
 num_bit_lem false o n e = rw e
 
-id_ends : (t : Bool) (o : OptText) (n : ℕ) (s : List ℕ) (at : ℕ) → maybe_id t s at ≡ done o n → n ≡ at + text_bit_of o * 4
+id_ends : (t : Bool) (o : Option Text) (n : ℕ) (s : List ℕ) (at : ℕ) → maybe_id t s at ≡ done o n → n ≡ at + text_bit_of o * 4
 id_ends true o n s at e = let r = of_maybe_id true s at e in rw r.0 r.1
 id_ends false o n s at e = let r = of_maybe_id false s at e in rw r.0 r.1
 
-num_ends : (t : Bool) (o : OptNum) (n : ℕ) (s : List ℕ) (at : ℕ) → maybe_number_of t s at ≡ done o n → n ≡ at + num_bit_of o * 4
+num_ends : (t : Bool) (o : Option ℕ) (n : ℕ) (s : List ℕ) (at : ℕ) → maybe_number_of t s at ≡ done o n → n ≡ at + num_bit_of o * 4
 num_ends true o n s at e = let r = of_maybe_number true s at e in rw r.0 r.1
 num_ends false o n s at e = let r = of_maybe_number false s at e in rw r.0 r.1
 
@@ -56,7 +56,7 @@ flagged_says type counter long h n s from e =
     by r1.value r2.value r3.value r3.mid (leb (all_headers type) long) refl r3.second a b c
     (omega (arith, id_ends (flag 4 type) r1.value r1.mid s (from + 4) r1.first, num_ends (flag 8 type) r2.value r2.mid s r1.mid r2.first, num_ends (flag 16 type) r3.value r3.mid s r2.mid r3.first))
   where
-    by : (ecu : OptText) (session time : OptNum) (k : ℕ) (t : Bool) → leb (all_headers type) long ≡ t → pick t (ret (header_of_lem type counter long ecu session time) s k) (refuse 1 s k) ≡ done h n
+    by : (ecu : Option Text) (session time : Option ℕ) (k : ℕ) (t : Bool) → leb (all_headers type) long ≡ t → pick t (ret (header_of_lem type counter long ecu session time) s k) (refuse 1 s k) ≡ done h n
         → text_bit_of ecu ≡ bit 4 type → num_bit_of session ≡ bit 8 type → num_bit_of time ≡ bit 16 type → k ≡ from + 4 + text_bit_of ecu * 4 + num_bit_of session * 4 + num_bit_of time * 4 → Says h from n long
     by ecu session time k true q g a b c z =
         let o = of_ret s k (header_of_lem type counter long ecu session time) g in

@@ -22,10 +22,9 @@ use Rattle.headertype.specs.Bits.{flag}
 use Rattle.headertype.specs.HeaderType.{all_headers}
 use Rattle.headertype.specs.declared.StandardHeader.{StandardHeader}
 use Rattle.messageinfo.specs.declared.ExtendedHeader.{ExtendedHeader}
-use Rattle.headertype.specs.declared.OptNum.{OptNum}
-use Rattle.headertype.specs.declared.OptText.{OptText}
 use Rattle.headers.specs.Standard.{maybe_id, maybe_number_of, header_of_lem, flagged, standard}
 use Rattle.headers.specs.Extended.{extended_of_lem, named, extended}
+use Rattle.std.specs.Prelude.{Option, Some, None}
 
 -- two answers that are one
 module _ {A : Type 0} {a : A} {n : ℕ} where
@@ -89,25 +88,25 @@ unfolding identified text
 of_id s at e = of_asking s at 4 (text_need 4) (ended_text 4) e
 
 -- what is read if flagged
-pub of_maybe_id : {o : OptText} {n : ℕ} (t : Bool) (s : List ℕ) (at : ℕ) → maybe_id t s at ≡ done o n
-    → (o ≡ pick t (OptText.Present (ended_text 4 s at)) OptText.Absent) × (n ≡ at + pick t 4 0)
+pub of_maybe_id : {o : Option Text} {n : ℕ} (t : Bool) (s : List ℕ) (at : ℕ) → maybe_id t s at ≡ done o n
+    → (o ≡ pick t (Some (ended_text 4 s at)) None) × (n ≡ at + pick t 4 0)
 unfolding maybe_id choose
 of_maybe_id true s at e =
-    let r = split identified (λ v. ret (OptText.Present v)) s at e in
+    let r = split identified (λ v. ret (Some v)) s at e in
     let i = of_id s at r.first in
-    let o = of_ret s r.mid (OptText.Present r.value) r.second in
-    (o.0 ∙ ap OptText.Present i.0, o.1 ∙ i.1)
-of_maybe_id false s at e = let o = of_ret s at OptText.Absent e in (o.0, omega (arith, o.1))
+    let o = of_ret s r.mid (Some r.value) r.second in
+    (o.0 ∙ ap Some i.0, o.1 ∙ i.1)
+of_maybe_id false s at e = let o = of_ret s at None e in (o.0, omega (arith, o.1))
 
-pub of_maybe_number : {o : OptNum} {n : ℕ} (t : Bool) (s : List ℕ) (at : ℕ) → maybe_number_of t s at ≡ done o n
-    → (o ≡ pick t (OptNum.Present (number_of true 4 s at)) OptNum.Absent) × (n ≡ at + pick t 4 0)
+pub of_maybe_number : {o : Option ℕ} {n : ℕ} (t : Bool) (s : List ℕ) (at : ℕ) → maybe_number_of t s at ≡ done o n
+    → (o ≡ pick t (Some (number_of true 4 s at)) None) × (n ≡ at + pick t 4 0)
 unfolding maybe_number_of choose
 of_maybe_number true s at e =
-    let r = split (number true 4) (λ v. ret (OptNum.Present v)) s at e in
+    let r = split (number true 4) (λ v. ret (Some v)) s at e in
     let i = of_number true 4 s at r.first in
-    let o = of_ret s r.mid (OptNum.Present r.value) r.second in
-    (o.0 ∙ ap OptNum.Present i.0, o.1 ∙ i.1)
-of_maybe_number false s at e = let o = of_ret s at OptNum.Absent e in (o.0, omega (arith, o.1))
+    let o = of_ret s r.mid (Some r.value) r.second in
+    (o.0 ∙ ap Some i.0, o.1 ∙ i.1)
+of_maybe_number false s at e = let o = of_ret s at None e in (o.0, omega (arith, o.1))
 
 -- ---- the identifiers that the headers hold stand within the bytes
 abbrev pub Inside : List ℕ → Range → Type 0
@@ -123,23 +122,23 @@ id_inside s at h e =
 ends_at : {A : Type 0} (p : Parser A) → Lawful p → (s : List ℕ) (at : ℕ) {a : A} {b : ℕ} → at ≤ length s → p s at ≡ done a b → b ≤ length s
 ends_at p l s at h e = (ends {p = p} s at l h e).1
 
-maybe_inside : (t : Bool) (o : OptText) (n : ℕ) (s : List ℕ) (at : ℕ) → at ≤ length s → maybe_id t s at ≡ done o n → (r : Text) → o ≡ OptText.Present r → Inside s r.place
+maybe_inside : (t : Bool) (o : Option Text) (n : ℕ) (s : List ℕ) (at : ℕ) → at ≤ length s → maybe_id t s at ≡ done o n → (r : Text) → o ≡ Some r → Inside s r.place
 unfolding maybe_id choose
 maybe_inside true o n s at h e r z =
-    let p = split identified (λ v. ret (OptText.Present v)) s at e in
-    let q = of_ret s p.mid (OptText.Present p.value) p.second in
+    let p = split identified (λ v. ret (Some v)) s at e in
+    let q = of_ret s p.mid (Some p.value) p.second in
     let l = ends_at identified identified_law s at h p.first in
-    let x : OptText.Present p.value ≡ OptText.Present r = sym q.0 ∙ z in
+    let x : Some p.value ≡ Some r = sym q.0 ∙ z in
     let y : p.value ≡ r = cc in
     subst (λ (x : Text). Inside s x.place) y (id_inside s at l p.first)
 maybe_inside false o n s at h e r z =
-    let q = of_ret s at OptText.Absent e in
-    let x : OptText.Absent ≡ OptText.Present r = sym q.0 ∙ z in
+    let q = of_ret s at None e in
+    let x : None ≡ Some r = sym q.0 ∙ z in
     let y : ◌≡◌ {A = ℕ} 0 1 = cc in
     absurd (omega arith)
 
 flagged_inside : (type counter long : ℕ) (h : StandardHeader) (n : ℕ) (s : List ℕ) (at : ℕ) → at ≤ length s → flagged type counter long s at ≡ done h n
-    → (r : Text) → h.ecu_id ≡ OptText.Present r → Inside s r.place
+    → (r : Text) → h.ecu_id ≡ Some r → Inside s r.place
 unfolding flagged choose header_of_lem
 flagged_inside type counter long h n s at l e r z =
     let r1 = split (maybe_id (flag 4 type)) _ s at e in
@@ -147,14 +146,14 @@ flagged_inside type counter long h n s at l e r z =
     let r3 = split (maybe_number_of (flag 16 type)) _ s r2.mid r2.second in
     by r1.value r2.value r3.value r3.mid (leb (all_headers type) long) r3.second (maybe_inside (flag 4 type) r1.value r1.mid s at l r1.first r)
   where
-    by : (ecu : OptText) (session time : OptNum) (k : ℕ) (b : Bool) → pick b (ret (header_of_lem type counter long ecu session time) s k) (refuse 1 s k) ≡ done h n
-        → (ecu ≡ OptText.Present r → Inside s r.place) → Inside s r.place
+    by : (ecu : Option Text) (session time : Option ℕ) (k : ℕ) (b : Bool) → pick b (ret (header_of_lem type counter long ecu session time) s k) (refuse 1 s k) ≡ done h n
+        → (ecu ≡ Some r → Inside s r.place) → Inside s r.place
     by ecu session time k true g f =
         let o = of_ret s k (header_of_lem type counter long ecu session time) g in
         f (sym (ap (λ (x : StandardHeader). x.ecu_id) o.0) ∙ z)
     by ecu session time k false g f = of_refuse s k 1 g
 
-pub ecu_inside : (h : StandardHeader) (n : ℕ) (s : List ℕ) (at : ℕ) → at ≤ length s → standard s at ≡ done h n → (r : Text) → h.ecu_id ≡ OptText.Present r → Inside s r.place
+pub ecu_inside : (h : StandardHeader) (n : ℕ) (s : List ℕ) (at : ℕ) → at ≤ length s → standard s at ≡ done h n → (r : Text) → h.ecu_id ≡ Some r → Inside s r.place
 unfolding standard
 ecu_inside h n s at l e r z =
     let r1 = split (number true 1) _ s at e in

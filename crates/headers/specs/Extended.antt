@@ -1,7 +1,6 @@
 -- Document 01, step 4: the extended header.
 use Rattle.std.specs.Prelude.{ℕ, true}
-use Rattle.wire.specs.Answer.{Ans, Parser}
-use Rattle.wire.specs.Answer.Ans.{done, need}
+use Rattle.wire.specs.Answer.{Parser}
 use Rattle.wire.specs.Parser.{ret, ◌>>=◌}
 use Rattle.wire.specs.Number.{number}
 use Rattle.wire.specs.declared.Text.{Text}
@@ -9,7 +8,6 @@ use Rattle.strings.specs.Text.{identified}
 use Rattle.headertype.specs.Bits.{flag}
 use Rattle.messageinfo.specs.MessageInfo.{message_type_of}
 use Rattle.messageinfo.specs.declared.ExtendedHeader.{ExtendedHeader}
-use Rattle.headers.specs.declared.ExtendedAns.{ExtendedAns}
 
 -- bit 0 of the message info is verbose
 unfoldable pub extended_of_lem : ℕ → ℕ → Text → Text → ExtendedHeader
@@ -34,7 +32,3 @@ extended = do
   info ← number true 1
   count ← number true 1
   named info count
-
-abbrev pub extended_ans : ExtendedAns → Ans ExtendedHeader
-extended_ans (ExtendedAns.Done g) = done g.v g.next
-extended_ans (ExtendedAns.Need n) = need n

@@ -1,34 +1,29 @@
 -- Document 01, step 3: the standard header.
-use Rattle.std.specs.Prelude.{ℕ, ◌-◌, ◌/◌, Bool, true, leb}
-use Rattle.wire.specs.Answer.{Ans, Parser}
-use Rattle.wire.specs.Answer.Ans.{done, need, hickup}
+use Rattle.std.specs.Prelude.{ℕ, ◌-◌, ◌/◌, Bool, true, leb, Option, Some, None}
+use Rattle.wire.specs.Answer.{Parser}
 use Rattle.wire.specs.Parser.{ret, refuse, choose, pick, ◌>>=◌}
 use Rattle.wire.specs.Number.{number}
 use Rattle.wire.specs.Run.{bytes}
 use Rattle.strings.specs.Text.{identified}
 use Rattle.headertype.specs.Bits.{flag}
 use Rattle.headertype.specs.HeaderType.{all_headers}
-use Rattle.headertype.specs.declared.OptNum.{OptNum}
-use Rattle.headertype.specs.declared.OptText.{OptText}
 use Rattle.headertype.specs.declared.Endianness.{Endianness}
 use Rattle.headertype.specs.declared.StandardHeader.{StandardHeader}
-use Rattle.headers.specs.declared.OptNumAns.{OptNumAns}
-use Rattle.headers.specs.declared.OptTextAns.{OptTextAns}
-use Rattle.headers.specs.declared.StandardAns.{StandardAns}
+use Rattle.wire.specs.declared.Text.{Text}
 
 -- an identifier, and 32 bits big-endian, if flagged
-unfoldable pub maybe_id : Bool → Parser OptText
-maybe_id t = choose t (identified >>= (λ v. ret (OptText.Present v))) (ret OptText.Absent)
+unfoldable pub maybe_id : Bool → Parser (Option Text)
+maybe_id t = choose t (identified >>= (λ v. ret (Some v))) (ret None)
 
-unfoldable pub maybe_number_of : Bool → Parser OptNum
-maybe_number_of t = choose t (number true 4 >>= (λ v. ret (OptNum.Present v))) (ret OptNum.Absent)
+unfoldable pub maybe_number_of : Bool → Parser (Option ℕ)
+maybe_number_of t = choose t (number true 4 >>= (λ v. ret (Some v))) (ret None)
 
 -- bit 1 of the type byte: the payload's byte order
 unfoldable pub endian_of : ℕ → Endianness
 endian_of type = pick (flag 2 type) Endianness.Big Endianness.Little
 
 -- the header, of its fields
-unfoldable pub header_of_lem : ℕ → ℕ → ℕ → OptText → OptNum → OptNum → StandardHeader
+unfoldable pub header_of_lem : ℕ → ℕ → ℕ → Option Text → Option ℕ → Option ℕ → StandardHeader
 header_of_lem type counter length ecu session time = record {
   version = type / 32;
   endianness = endian_of type;
@@ -61,17 +56,3 @@ unfoldable pub declared : Parser ℕ
 declared = do
   before ← bytes 2
   number true 2
-
--- the answers that the enums stand for
-abbrev pub opt_text_ans : OptTextAns → Ans OptText
-opt_text_ans (OptTextAns.Done g) = done g.v g.next
-opt_text_ans (OptTextAns.Need n) = need n
-
-abbrev pub opt_num_ans : OptNumAns → Ans OptNum
-opt_num_ans (OptNumAns.Done g) = done g.v g.next
-opt_num_ans (OptNumAns.Need n) = need n
-
-abbrev pub standard_ans : StandardAns → Ans StandardHeader
-standard_ans (StandardAns.Done g) = done g.v g.next
-standard_ans (StandardAns.Need n) = need n
-standard_ans (StandardAns.Hickup r) = hickup r

@@ -3,107 +3,46 @@
 #![tactic(auto)]
 
 ghost use Rattle.std.specs.Prelude.{◌≡◌, ◌≤◌};
-ghost use Rattle.wire.specs.Number.{u16_ans};
 ghost use Rattle.headertype.specs.HeaderType.{all_headers};
-ghost use Rattle.headers.specs.Standard.{maybe_id, maybe_number_of, endian_of, header_of_lem, flagged, standard, declared, opt_text_ans, opt_num_ans, standard_ans};
-ghost use Rattle.headers.specs.Extended.{extended_of_lem, named, extended, extended_ans};
+ghost use Rattle.headers.specs.Standard.{maybe_id, maybe_number_of, endian_of, header_of_lem, flagged, standard, declared};
+ghost use Rattle.headers.specs.Extended.{extended_of_lem, named, extended};
+ghost use Rattle.wire.specs.Answers.{need_ans, stop_ans};
 
-use headertype::{Endianness, OptNum, OptText, StandardHeader};
+use headertype::{Endianness, StandardHeader};
 use messageinfo::{ExtendedHeader, MessageType};
-use wire::{RangeAns, Text, TextAns, U8Ans, U16Ans, U32Ans};
-
-#[derive(Clone, Copy)]
-pub struct GotOptText {
-    pub v: OptText,
-    pub next: usize,
-}
-
-#[derive(Clone, Copy)]
-pub enum OptTextAns {
-    Done(GotOptText),
-    Need(usize),
-}
-
-#[derive(Clone, Copy)]
-pub struct GotOptNum {
-    pub v: OptNum,
-    pub next: usize,
-}
-
-#[derive(Clone, Copy)]
-pub enum OptNumAns {
-    Done(GotOptNum),
-    Need(usize),
-}
-
-#[derive(Clone, Copy)]
-pub struct GotStandard {
-    pub v: StandardHeader,
-    pub next: usize,
-}
-
-#[derive(Clone, Copy)]
-pub enum StandardAns {
-    Done(GotStandard),
-    Need(usize),
-    Hickup(u8),
-}
-
-#[derive(Clone, Copy)]
-pub struct GotExtended {
-    pub v: ExtendedHeader,
-    pub next: usize,
-}
-
-#[derive(Clone, Copy)]
-pub enum ExtendedAns {
-    Done(GotExtended),
-    Need(usize),
-}
+use wire::{Got, Need, Reason, Stop, Text};
 
 // An identifier, if `present`.
-fn maybe_parse_ecu_id(s: &[u8], at: usize, present: bool) -> OptTextAns
-    ensures { opt_text_ans result ≡ maybe_id present s.now at }
+fn maybe_parse_ecu_id(s: &[u8], at: usize, present: bool) -> Result<Got<Option<Text>>, Need>
+    ensures { need_ans result ≡ maybe_id present s.now at }
 {
     if present {
-        match strings::identifier(s, at) {
-            TextAns::Done(id) => {
-                // part by part: a copy of the whole would read the reason's one byte as eight, and wait for it (docs/DECISIONS.md)
-                let text = id.v;
-                let place = text.place;
-                let ended = text.ended;
-                OptTextAns::Done(GotOptText {
-                    v: OptText::Present(Text { place, ended }),
-                    next: id.next,
-                })
-            }
-            TextAns::Need(no_id) => OptTextAns::Need(no_id),
-        }
-    } else {
-        OptTextAns::Done(GotOptText {
-            v: OptText::Absent,
-            next: at,
+        let id = strings::identifier(s, at)?;
+        // part by part: a copy of the whole would read the reason's one byte as eight, and wait for it (docs/DECISIONS.md)
+        let text = id.v;
+        let place = text.place;
+        let ended = text.ended;
+        Ok(Got {
+            v: Some(Text { place, ended }),
+            next: id.next,
         })
+    } else {
+        Ok(Got { v: None, next: at })
     }
 }
 
 // A big-endian number of 32 bits, if `present`.
-fn maybe_parse_u32(s: &[u8], at: usize, present: bool) -> OptNumAns
-    ensures { opt_num_ans result ≡ maybe_number_of present s.now at }
+fn maybe_parse_u32(s: &[u8], at: usize, present: bool) -> Result<Got<Option<u32>>, Need>
+    ensures { need_ans result ≡ maybe_number_of present s.now at }
 {
     if present {
-        match wire::parse_u32(s, at, true) {
-            U32Ans::Done(num) => OptNumAns::Done(GotOptNum {
-                v: OptNum::Present(num.v),
-                next: num.next,
-            }),
-            U32Ans::Need(no_num) => OptNumAns::Need(no_num),
-        }
-    } else {
-        OptNumAns::Done(GotOptNum {
-            v: OptNum::Absent,
-            next: at,
+        let num = wire::parse_u32(s, at, true)?;
+        Ok(Got {
+            v: Some(num.v),
+            next: num.next,
         })
+    } else {
+        Ok(Got { v: None, next: at })
     }
 }
 
@@ -122,9 +61,9 @@ fn header_of(
     typ: u8,
     counter: u8,
     length: u16,
-    ecu: OptText,
-    session: OptNum,
-    time: OptNum,
+    ecu: Option<Text>,
+    session: Option<u32>,
+    time: Option<u32>,
 ) -> StandardHeader
     requires { all_headers typ ≤ length }
     ensures { result ≡ header_of_lem typ counter length ecu session time }
@@ -144,52 +83,40 @@ fn header_of(
 }
 
 // What is flagged; only then is the declared length held against the headers.
-fn flagged_fields(s: &[u8], at: usize, typ: u8, counter: u8, length: u16) -> StandardAns
-    ensures { standard_ans result ≡ flagged typ counter length s.now at }
+fn flagged_fields(
+    s: &[u8],
+    at: usize,
+    typ: u8,
+    counter: u8,
+    length: u16,
+) -> Result<Got<StandardHeader>, Stop>
+    ensures { stop_ans result ≡ flagged typ counter length s.now at }
 {
-    let ecu = match maybe_parse_ecu_id(s, at, typ / 4 % 2 == 1) {
-        OptTextAns::Done(ecu) => ecu,
-        OptTextAns::Need(no_ecu) => return StandardAns::Need(no_ecu),
-    };
-    let session = match maybe_parse_u32(s, ecu.next, typ / 8 % 2 == 1) {
-        OptNumAns::Done(session) => session,
-        OptNumAns::Need(no_session) => return StandardAns::Need(no_session),
-    };
-    let time = match maybe_parse_u32(s, session.next, typ / 16 % 2 == 1) {
-        OptNumAns::Done(time) => time,
-        OptNumAns::Need(no_time) => return StandardAns::Need(no_time),
-    };
+    let ecu = maybe_parse_ecu_id(s, at, typ / 4 % 2 == 1)?;
+    let session = maybe_parse_u32(s, ecu.next, typ / 8 % 2 == 1)?;
+    let time = maybe_parse_u32(s, session.next, typ / 16 % 2 == 1)?;
     let all = headertype::calculate_all_headers_length(typ);
     if all <= length {
         let ecu_id = ecu.v;
         let session_id = session.v;
         let timestamp = time.v;
         let header = header_of(typ, counter, length, ecu_id, session_id, timestamp);
-        StandardAns::Done(GotStandard {
+        Ok(Got {
             v: header,
             next: time.next,
         })
     } else {
-        StandardAns::Hickup(1)
+        Err(Stop::Hickup(Reason::Length))
     }
 }
 
 // The standard header.
-pub fn dlt_standard_header(s: &[u8], at: usize) -> StandardAns
-    ensures { standard_ans result ≡ standard s.now at }
+pub fn dlt_standard_header(s: &[u8], at: usize) -> Result<Got<StandardHeader>, Stop>
+    ensures { stop_ans result ≡ standard s.now at }
 {
-    let typ = match wire::parse_u8(s, at) {
-        U8Ans::Done(typ) => typ,
-        U8Ans::Need(no_typ) => return StandardAns::Need(no_typ),
-    };
-    let counter = match wire::parse_u8(s, typ.next) {
-        U8Ans::Done(counter) => counter,
-        U8Ans::Need(no_counter) => return StandardAns::Need(no_counter),
-    };
-    let length = match wire::parse_u16(s, counter.next, true) {
-        U16Ans::Done(length) => length,
-        U16Ans::Need(no_length) => return StandardAns::Need(no_length),
-    };
+    let typ = wire::parse_u8(s, at)?;
+    let counter = wire::parse_u8(s, typ.next)?;
+    let length = wire::parse_u16(s, counter.next, true)?;
     flagged_fields(s, length.next, typ.v, counter.v, length.v)
 }
 
@@ -208,47 +135,33 @@ fn extended_of(info: u8, count: u8, app: Text, context: Text) -> ExtendedHeader
 }
 
 // The two identifiers of the extended header.
-fn named_fields(s: &[u8], at: usize, info: u8, count: u8) -> ExtendedAns
-    ensures { extended_ans result ≡ named info count s.now at }
+fn named_fields(s: &[u8], at: usize, info: u8, count: u8) -> Result<Got<ExtendedHeader>, Need>
+    ensures { need_ans result ≡ named info count s.now at }
 {
-    let app = match strings::identifier(s, at) {
-        TextAns::Done(app) => app,
-        TextAns::Need(no_app) => return ExtendedAns::Need(no_app),
-    };
-    let context = match strings::identifier(s, app.next) {
-        TextAns::Done(context) => context,
-        TextAns::Need(no_context) => return ExtendedAns::Need(no_context),
-    };
+    let app = strings::identifier(s, at)?;
+    let context = strings::identifier(s, app.next)?;
     let application = app.v;
     let context_id = context.v;
     let header = extended_of(info, count, application, context_id);
-    ExtendedAns::Done(GotExtended {
+    Ok(Got {
         v: header,
         next: context.next,
     })
 }
 
 // The extended header.
-pub fn dlt_extended_header(s: &[u8], at: usize) -> ExtendedAns
-    ensures { extended_ans result ≡ extended s.now at }
+pub fn dlt_extended_header(s: &[u8], at: usize) -> Result<Got<ExtendedHeader>, Need>
+    ensures { need_ans result ≡ extended s.now at }
 {
-    let info = match wire::parse_u8(s, at) {
-        U8Ans::Done(info) => info,
-        U8Ans::Need(no_info) => return ExtendedAns::Need(no_info),
-    };
-    let count = match wire::parse_u8(s, info.next) {
-        U8Ans::Done(count) => count,
-        U8Ans::Need(no_count) => return ExtendedAns::Need(no_count),
-    };
+    let info = wire::parse_u8(s, at)?;
+    let count = wire::parse_u8(s, info.next)?;
     named_fields(s, count.next, info.v, count.v)
 }
 
 // The declared length of the standard header that stands at `at`.
-pub fn parse_length(s: &[u8], at: usize) -> U16Ans
-    ensures { u16_ans result ≡ declared s.now at }
+pub fn parse_length(s: &[u8], at: usize) -> Result<Got<u16>, Need>
+    ensures { need_ans result ≡ declared s.now at }
 {
-    match wire::take(s, at, 2) {
-        RangeAns::Done(before) => wire::parse_u16(s, before.next, true),
-        RangeAns::Need(no_before) => U16Ans::Need(no_before),
-    }
+    let before = wire::take(s, at, 2)?;
+    wire::parse_u16(s, before.next, true)
 }

@@ -7,10 +7,10 @@ use mathlib.Core.Bool.{Bool, true, false}
 use lib.Dec.{eqb}
 use Rattle.headertype.specs.Bits.{bit, flag, one_if_of}
 use Rattle.headertype.specs.HeaderType.{big_bit_of, text_bit_of, num_bit_of, all_headers, header_type_byte_of}
-use Rattle.headertype.specs.declared.OptNum.{OptNum}
-use Rattle.headertype.specs.declared.OptText.{OptText}
 use Rattle.headertype.specs.declared.Endianness.{Endianness}
 use Rattle.headertype.specs.declared.StandardHeader.{StandardHeader}
+use Rattle.std.specs.Prelude.{Option, Some, None}
+use Rattle.wire.specs.declared.Text.{Text}
 
 -- a flag that was tested is its bit
 pub one_bit : (p x : ℕ) → one_if_of (flag p x) ≡ bit p x
@@ -47,13 +47,13 @@ big_most : (e : Endianness) → big_bit_of e ≤ 1
 big_most Endianness.Little = omega arith
 big_most Endianness.Big = omega arith
 
-text_most : (o : OptText) → text_bit_of o ≤ 1
-text_most (OptText.Present r) = omega arith
-text_most OptText.Absent = omega arith
+text_most : (o : Option Text) → text_bit_of o ≤ 1
+text_most (Some r) = omega arith
+text_most None = omega arith
 
-num_most : (o : OptNum) → num_bit_of o ≤ 1
-num_most (OptNum.Present r) = omega arith
-num_most OptNum.Absent = omega arith
+num_most : (o : Option ℕ) → num_bit_of o ≤ 1
+num_most (Some r) = omega arith
+num_most None = omega arith
 
 pub all_headers_lem : (h : StandardHeader) → all_headers (header_type_byte_of h)
     ≡ 4 + text_bit_of h.ecu_id * 4 + num_bit_of h.session_id * 4 + num_bit_of h.timestamp * 4 + one_if_of h.has_extended_header * 10

@@ -1,10 +1,9 @@
 -- Document 01, step 3: the header type byte. Bit 0 extended header, 1 big-endian payload, 2 ECU id, 3 session id, 4 timestamp; bits 5 to 7 version.
-use Rattle.std.specs.Prelude.{ℕ, ◌+◌, ◌*◌, ◌%◌}
+use Rattle.std.specs.Prelude.{ℕ, ◌+◌, ◌*◌, ◌%◌, Option, Some, None}
 use Rattle.headertype.specs.Bits.{bit, one_if_of}
 use Rattle.headertype.specs.declared.Endianness.{Endianness}
-use Rattle.headertype.specs.declared.OptNum.{OptNum}
-use Rattle.headertype.specs.declared.OptText.{OptText}
 use Rattle.headertype.specs.declared.StandardHeader.{StandardHeader}
+use Rattle.wire.specs.declared.Text.{Text}
 
 -- the standard header: 4, plus 4 for each of the three fields
 abbrev pub standard_length : ℕ → ℕ
@@ -19,13 +18,13 @@ abbrev pub big_bit_of : Endianness → ℕ
 big_bit_of Endianness.Little = 0
 big_bit_of Endianness.Big = 1
 
-abbrev pub text_bit_of : OptText → ℕ
-text_bit_of (OptText.Present r) = 1
-text_bit_of OptText.Absent = 0
+abbrev pub text_bit_of : Option Text → ℕ
+text_bit_of (Some r) = 1
+text_bit_of None = 0
 
-abbrev pub num_bit_of : OptNum → ℕ
-num_bit_of (OptNum.Present n) = 1
-num_bit_of OptNum.Absent = 0
+abbrev pub num_bit_of : Option ℕ → ℕ
+num_bit_of (Some n) = 1
+num_bit_of None = 0
 
 -- the type byte that announces a header
 unfoldable pub header_type_byte_of : StandardHeader → ℕ

@@ -11,24 +11,6 @@ ghost use Rattle.headertype.specs.HeaderType.{big_bit_of, text_bit_of, num_bit_o
 use wire::{Range, Text};
 
 #[derive(Clone, Copy)]
-pub enum OptNum {
-    Present(u32),
-    Absent,
-}
-
-#[derive(Clone, Copy)]
-pub enum OptRange {
-    Present(Range),
-    Absent,
-}
-
-#[derive(Clone, Copy)]
-pub enum OptText {
-    Present(Text),
-    Absent,
-}
-
-#[derive(Clone, Copy)]
 pub enum Endianness {
     Little,
     Big,
@@ -46,9 +28,9 @@ pub struct StandardHeader {
     pub endianness: Endianness,
     pub has_extended_header: bool,
     pub message_counter: u8,
-    pub ecu_id: OptText,
-    pub session_id: OptNum,
-    pub timestamp: OptNum,
+    pub ecu_id: Option<Text>,
+    pub session_id: Option<u32>,
+    pub timestamp: Option<u32>,
     pub payload_length: u16,
 }
 
@@ -73,21 +55,21 @@ fn big_bit(e: Endianness) -> u8
     }
 }
 
-fn text_bit(o: OptText) -> u8
+fn text_bit(o: Option<Text>) -> u8
     ensures { (result ≡ text_bit_of o) × (result ≤ 1) }
 {
     match o {
-        OptText::Present(_) => 1,
-        OptText::Absent => 0,
+        Some(_) => 1,
+        None => 0,
     }
 }
 
-fn num_bit(o: OptNum) -> u8
+fn num_bit(o: Option<u32>) -> u8
     ensures { (result ≡ num_bit_of o) × (result ≤ 1) }
 {
     match o {
-        OptNum::Present(_) => 1,
-        OptNum::Absent => 0,
+        Some(_) => 1,
+        None => 0,
     }
 }
 

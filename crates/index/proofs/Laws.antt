@@ -17,7 +17,8 @@ use Rattle.walk.specs.Table.{Done, finish}
 use Rattle.walk.proofs.Going.{here, ended, Going, goes_on}
 use Rattle.filter.specs.Filter.{filter_of}
 use Rattle.filter.specs.declared.Filter.{Filter}
-use Rattle.filter.specs.declared.FilterAns.{FilterAns}
+use Rattle.filter.specs.declared.FilterError.{FilterError}
+use Rattle.std.specs.Prelude.{Result, Ok, Err}
 use Rattle.step.specs.Step.{asked}
 use Rattle.step.proofs.Fair.{fair}
 use Rattle.index.specs.Index.{limit, Form, Sound, Outcome, stopped, refused, end_of, shown, walk_of, ahead, checked, judged, call}
@@ -27,15 +28,15 @@ use Rattle.index.specs.declared.Indexed.{Indexed}
 
 -- ---- the cases of a call
 module _ {A : Type 0} (form : Form A) (f : List ℕ) (n : ℕ) (s : List ℕ) (st : State) (T : List A) where
-  pub bad_filter_lem : (v : FilterAns) → v ≡ filter_of f → v ≡ FilterAns.Bad → call form f n s st T ≡ refused st T End.BadFilter
+  pub bad_filter_lem : (v : Result Filter FilterError) → v ≡ filter_of f → v ≡ (Err FilterError.Bad) → call form f n s st T ≡ refused st T End.BadFilter
   unfolding call judged
   bad_filter_lem v e q = rw (sym e ∙ q)
 
-  pub retired_tag_lem : (v : FilterAns) → v ≡ filter_of f → v ≡ FilterAns.Retired → call form f n s st T ≡ refused st T End.RetiredTag
+  pub retired_tag_lem : (v : Result Filter FilterError) → v ≡ filter_of f → v ≡ (Err FilterError.Retired) → call form f n s st T ≡ refused st T End.RetiredTag
   unfolding call judged
   retired_tag_lem v e q = rw (sym e ∙ q)
 
-  pub good_filter : (v : FilterAns) (filter : Filter) → v ≡ filter_of f → v ≡ FilterAns.Good filter → call form f n s st T ≡ checked form f filter n s st T
+  pub good_filter : (v : Result Filter FilterError) (filter : Filter) → v ≡ filter_of f → v ≡ Ok filter → call form f n s st T ≡ checked form f filter n s st T
   unfolding call judged
   good_filter v filter e q = rw (sym e ∙ q)
 

@@ -27,7 +27,6 @@ use lib.Dec.{ltb}
 use borrow.Author.Tests.{le-ltb, ltb-true, ltb-false}
 use Rattle.wire.specs.Answer.Ans.{done}
 use Rattle.mark.specs.First.{pattern, find}
-use Rattle.mark.specs.declared.Found.{Found}
 use Rattle.headertype.specs.HeaderType.{overall_length_of}
 use Rattle.headertype.specs.declared.StandardHeader.{StandardHeader}
 use Rattle.headers.specs.Standard.{standard}
@@ -43,7 +42,8 @@ use Rattle.walk.proofs.Calls as walks
 use Rattle.walk.proofs.Going.{flat_length, finish_after}
 use Rattle.filter.specs.Filter.{filter_of}
 use Rattle.filter.specs.declared.Filter.{Filter}
-use Rattle.filter.specs.declared.FilterAns.{FilterAns}
+use Rattle.filter.specs.declared.FilterError.{FilterError}
+use Rattle.std.specs.Prelude.{Result, Ok, Err, Some}
 use Rattle.step.specs.Step.{asked}
 use Rattle.step.proofs.Fair.{fair, patient}
 use Rattle.step.proofs.Past as declared
@@ -171,10 +171,10 @@ module _ {A : Type 0} (form : Form A) (sound : Sound form) (f : List ℕ) where
       second filter g true e = no End.BadState tt (λ m x. g m x st T ∙ bad_state form f m x st T filter (ltb-true _ _ e))
       second filter g false e = third filter g (ltb-false _ _ e) (ltb limit (st.at + length s)) refl
 
-      by : (v : FilterAns) → filter_of f ≡ v → Came n s st T
-      by (FilterAns.Good filter) e = second filter (λ m x st T. good_filter form f m x st T (filter_of f) filter refl e) (ltb (form.holds (length T)) st.used) refl
-      by FilterAns.Retired e = no End.RetiredTag tt (λ m x. retired_tag_lem form f m x st T (filter_of f) refl e)
-      by FilterAns.Bad e = no End.BadFilter tt (λ m x. bad_filter_lem form f m x st T (filter_of f) refl e)
+      by : (v : Result Filter FilterError) → filter_of f ≡ v → Came n s st T
+      by (Ok filter) e = second filter (λ m x st T. good_filter form f m x st T (filter_of f) filter refl e) (ltb (form.holds (length T)) st.used) refl
+      by (Err FilterError.Retired) e = no End.RetiredTag tt (λ m x. retired_tag_lem form f m x st T (filter_of f) refl e)
+      by (Err FilterError.Bad) e = no End.BadFilter tt (λ m x. bad_filter_lem form f m x st T (filter_of f) refl e)
 
   -- the resume position moves forward, within the bytes given
   pub onward : (n : ℕ) (s : List ℕ) (st : State) (T : List A) → (st.at ≤ (call form f n s st T).answer.state.at) × ((call form f n s st T).answer.state.at ≤ st.at + length s)
@@ -357,7 +357,7 @@ module _ {A : Type 0} (form : Form A) (sound : Sound form) (f : List ℕ) where
   unfolding ahead run
   stops_at_once s st T filter = rw (over_none, add-zero)
 
-  pub zero_pauses : (s : List ℕ) (st : State) (T : List A) (filter : Filter) → filter_of f ≡ FilterAns.Good filter → st.used ≤ form.holds (length T) → st.at + length s ≤ limit
+  pub zero_pauses : (s : List ℕ) (st : State) (T : List A) (filter : Filter) → filter_of f ≡ Ok filter → st.used ≤ form.holds (length T) → st.at + length s ≤ limit
       → call form f 0 s st T ≡ refused st T End.Paused
   zero_pauses s st T filter e h l =
       good_filter form f 0 s st T (filter_of f) filter refl e ∙ goes_ahead form f 0 s st T filter h (le-ltb _ _ l) ∙ stops_at_once s st T filter
@@ -452,7 +452,7 @@ module _ {A : Type 0} (form : Form A) (sound : Sound form) (f : List ℕ) where
 
   -- NO WAIT PAST A DECLARED END: where the call waits with need v behind a standard header that is accepted, it is for declared bytes, and for one at least
   pub never_past : (n : ℕ) (s : List ℕ) (st : State) (T : List A) (v k : ℕ) (h : StandardHeader) (b : ℕ) → (call form f n s st T).answer.end ≡ End.Waits v
-      → find pattern (drop ((call form f n s st T).answer.state.at - st.at) s) 0 ≡ Found.At k
+      → find pattern (drop ((call form f n s st T).answer.state.at - st.at) s) 0 ≡ Some k
       → standard (drop ((call form f n s st T).answer.state.at - st.at) s) (k + 16) ≡ done h b
       → (1 ≤ v) × (length (drop ((call form f n s st T).answer.state.at - st.at) s) + v ≤ k + 16 + overall_length_of h)
   never_past n s st T v k h b w found accepted =
@@ -466,12 +466,12 @@ module _ {A : Type 0} (form : Form A) (sound : Sound form) (f : List ℕ) where
       → length t ≡ v → WaitOver (form.holds (length T)) (call form f n s st T) (call form f n (s ++ t) st T)
   worth_the_wait n s t st T v l behind g w read enough = by (came n s st T) (filter_of f) refl
     where
-      by : Came n s st T → (x : FilterAns) → filter_of f ≡ x → WaitOver (form.holds (length T)) (call form f n s st T) (call form f n (s ++ t) st T)
+      by : Came n s st T → (x : Result Filter FilterError) → filter_of f ≡ x → WaitOver (form.holds (length T)) (call form f n s st T) (call form f n (s ++ t) st T)
       by (no e a q) x z = absurd (subst Refuses (sym (ap (λ (o : Outcome A). o.answer.end) (q n s)) ∙ w) a)
       by (long m q) x z = absurd (omega (arith, length-append s t))
-      by (yes _ h m _ _) FilterAns.Retired z = absurd (omega (arith, ap number_of (sym (ap (λ (o : Outcome A). o.answer.end) (retired_tag_lem form f n s st T (filter_of f) refl z)) ∙ w)))
-      by (yes _ h m _ _) FilterAns.Bad z = absurd (omega (arith, ap number_of (sym (ap (λ (o : Outcome A). o.answer.end) (bad_filter_lem form f n s st T (filter_of f) refl z)) ∙ w)))
-      by (yes _ h m _ _) (FilterAns.Good filter) z =
+      by (yes _ h m _ _) (Err FilterError.Retired) z = absurd (omega (arith, ap number_of (sym (ap (λ (o : Outcome A). o.answer.end) (retired_tag_lem form f n s st T (filter_of f) refl z)) ∙ w)))
+      by (yes _ h m _ _) (Err FilterError.Bad) z = absurd (omega (arith, ap number_of (sym (ap (λ (o : Outcome A). o.answer.end) (bad_filter_lem form f n s st T (filter_of f) refl z)) ∙ w)))
+      by (yes _ h m _ _) (Ok filter) z =
           let is : (x : List ℕ) → st.at + length x ≤ limit → call form f n x st T ≡ laid form T st.used (out form sound f filter n x st T) =
           λ x y. good_filter form f n x st T (filter_of f) filter refl z ∙ goes_ahead form f n x st T filter h (le-ltb _ _ y) ∙ ahead_so form sound f filter n x st T in
           let o = out form sound f filter n s st T in

@@ -16,7 +16,8 @@ use Rattle.table.proofs.Laws.{over_length, over_upto}
 use Rattle.walk.specs.Table.{flat}
 use Rattle.filter.specs.Filter.{filter_of}
 use Rattle.filter.specs.declared.Filter.{Filter}
-use Rattle.filter.specs.declared.FilterAns.{FilterAns}
+use Rattle.filter.specs.declared.FilterError.{FilterError}
+use Rattle.std.specs.Prelude.{Result, Ok, Err}
 use Rattle.index.specs.Index.{limit, Form, Sound, refused, laid, walk_of, call}
 use Rattle.index.specs.Calls.{unlimited, whole, adding, SameEntries, Alike}
 use Rattle.index.specs.declared.State.{State}
@@ -54,7 +55,7 @@ module _ {A : Type 0} (form : Form A) (sound : Sound form) (f : List ℕ) where
       room : form.holds (length U) ≡ form.holds (length T)
       room = ap form.holds same.as_long
 
-      third : (filter : Filter) → filter_of f ≡ FilterAns.Good filter → st.used ≤ form.holds (length T) → (b : Bool) → ltb limit (st.at + length s) ≡ b
+      third : (filter : Filter) → filter_of f ≡ Ok filter → st.used ≤ form.holds (length T) → (b : Bool) → ltb limit (st.at + length s) ≡ b
           → Alike form (call form f n s st T) (call form f n s st U)
       third filter e h true l =
           both_refuse n s st T U same End.TooLong
@@ -66,17 +67,17 @@ module _ {A : Type 0} (form : Form A) (sound : Sound form) (f : List ℕ) where
           (good_filter form f n s st U (filter_of f) filter refl e ∙ goes_ahead form f n s st U filter (rw room h) l ∙ ahead_so form sound f filter n s st U
           ∙ ap (λ (k : ℕ). laid form U st.used (walk_of f filter n s st k)) room)
 
-      second : (filter : Filter) → filter_of f ≡ FilterAns.Good filter → (b : Bool) → ltb (form.holds (length T)) st.used ≡ b → Alike form (call form f n s st T) (call form f n s st U)
+      second : (filter : Filter) → filter_of f ≡ Ok filter → (b : Bool) → ltb (form.holds (length T)) st.used ≡ b → Alike form (call form f n s st T) (call form f n s st U)
       second filter e true l =
           both_refuse n s st T U same End.BadState
           (good_filter form f n s st T (filter_of f) filter refl e ∙ bad_state form f n s st T filter (ltb-true _ _ l))
           (good_filter form f n s st U (filter_of f) filter refl e ∙ bad_state form f n s st U filter (rw room (ltb-true _ _ l)))
       second filter e false l = third filter e (ltb-false _ _ l) (ltb limit (st.at + length s)) refl
 
-      by : (v : FilterAns) → filter_of f ≡ v → Alike form (call form f n s st T) (call form f n s st U)
-      by (FilterAns.Good filter) e = second filter e (ltb (form.holds (length T)) st.used) refl
-      by FilterAns.Retired e = both_refuse n s st T U same End.RetiredTag (retired_tag_lem form f n s st T (filter_of f) refl e) (retired_tag_lem form f n s st U (filter_of f) refl e)
-      by FilterAns.Bad e = both_refuse n s st T U same End.BadFilter (bad_filter_lem form f n s st T (filter_of f) refl e) (bad_filter_lem form f n s st U (filter_of f) refl e)
+      by : (v : Result Filter FilterError) → filter_of f ≡ v → Alike form (call form f n s st T) (call form f n s st U)
+      by (Ok filter) e = second filter e (ltb (form.holds (length T)) st.used) refl
+      by (Err FilterError.Retired) e = both_refuse n s st T U same End.RetiredTag (retired_tag_lem form f n s st T (filter_of f) refl e) (retired_tag_lem form f n s st U (filter_of f) refl e)
+      by (Err FilterError.Bad) e = both_refuse n s st T U same End.BadFilter (bad_filter_lem form f n s st T (filter_of f) refl e) (bad_filter_lem form f n s st U (filter_of f) refl e)
 
   -- DEMAND 3 where the host wrote into unused places: a call with any limit left a table, U has its entries, and a call without a limit over U, with more
   -- bytes added, ends as one call without a limit over all of them

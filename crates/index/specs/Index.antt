@@ -1,11 +1,11 @@
 -- Document 01, "The trace index": the call. The refusals in their order, and then the walk, laid down in the table. It stops after n entries, if it
 -- doesn't end before.
-use Rattle.std.specs.Prelude.{ℕ, ◌+◌, ◌*◌, ◌/◌, ◌≤◌, ◌≡◌, List, [], ◌∷◌, length, ltb}
+use Rattle.std.specs.Prelude.{ℕ, ◌+◌, ◌*◌, ◌/◌, ◌≤◌, ◌≡◌, List, [], ◌∷◌, length, ltb, Result, Ok, Err}
 use Rattle.wire.specs.Answer.{Carried, Numbered, bad_filter, retired_tag, carried_number}
 use Rattle.wire.specs.Parser.{pick}
 use Rattle.filter.specs.Filter.{filter_of}
 use Rattle.filter.specs.declared.Filter.{Filter}
-use Rattle.filter.specs.declared.FilterAns.{FilterAns}
+use Rattle.filter.specs.declared.FilterError.{FilterError}
 use Rattle.walk.specs.Walk.{Entry, Ends, Out, walk}
 use Rattle.walk.specs.Table.{Done, finish}
 use Rattle.step.specs.Step.{asked}
@@ -101,10 +101,10 @@ checked form f filter n s st T =
     (ahead form f filter n s st T))
 
 -- BadFilter and RetiredTag come before all
-unfoldable pub judged : {A : Type 0} → Form A → List ℕ → ℕ → List ℕ → State → List A → FilterAns → Outcome A
-judged form f n s st T (FilterAns.Good filter) = checked form f filter n s st T
-judged form f n s st T FilterAns.Retired = refused st T End.RetiredTag
-judged form f n s st T FilterAns.Bad = refused st T End.BadFilter
+unfoldable pub judged : {A : Type 0} → Form A → List ℕ → ℕ → List ℕ → State → List A → Result Filter FilterError → Outcome A
+judged form f n s st T (Ok filter) = checked form f filter n s st T
+judged form f n s st T (Err FilterError.Retired) = refused st T End.RetiredTag
+judged form f n s st T (Err FilterError.Bad) = refused st T End.BadFilter
 
 -- the call: the filter's bytes, after how many entries it stops, the bytes from the resume position on, the state, the table
 unfoldable pub call : {A : Type 0} → Form A → List ℕ → ℕ → List ℕ → State → List A → Outcome A

@@ -8,7 +8,7 @@ ghost use Rattle.step.specs.Step.{asked, step_of};
 ghost use Rattle.index.specs.declared.End.{End};
 ghost use Rattle.index.specs.Index.{limit, Outcome, stopped, flat_form, ahead, checked, outcome};
 
-use filter::{Filter, FilterAns};
+use filter::{Filter, FilterError};
 use step::Heard;
 
 // Where the next call goes on, and how many entries of the table are used. Both are 0 when fresh.
@@ -121,8 +121,7 @@ fn walk_on(s: &[u8], f: &[u8], filter: Filter, state: State, table: &mut [u64], 
     let from = state.at;
     let mut used = state.used;
     let mut at = 0;
-    let mut taken = 0;
-    while taken < n {
+    for taken in 0..n {
         match ask_at(s, at, f, filter) {
             Heard::Wait(need) => return waiting(from + at, used, taken, need),
             Heard::Take { skipped, len, kind } => {
@@ -131,12 +130,11 @@ fn walk_on(s: &[u8], f: &[u8], filter: Filter, state: State, table: &mut [u64], 
                 }
                 put(table, used, from + at + skipped, skipped, len, kind);
                 used += 1;
-                taken += 1;
                 at += skipped + len;
             }
         }
     }
-    paused(from + at, used, taken)
+    paused(from + at, used, n)
 }
 
 // The state is checked, then the length, and then it walks.
@@ -165,8 +163,8 @@ pub fn index(s: &[u8], f: &[u8], state: State, table: &mut [u64], n: usize) -> I
     ensures { outcome f.now n s.now state table.old ≡ record { answer = result; table = table.new } }
 {
     match filter::read_filter(f) {
-        FilterAns::Good(filter) => index_with(s, f, filter, state, table, n),
-        FilterAns::Retired => refuse(state, End::RetiredTag),
-        FilterAns::Bad => refuse(state, End::BadFilter),
+        Ok(filter) => index_with(s, f, filter, state, table, n),
+        Err(FilterError::Retired) => refuse(state, End::RetiredTag),
+        Err(FilterError::Bad) => refuse(state, End::BadFilter),
     }
 }

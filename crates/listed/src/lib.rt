@@ -32,36 +32,29 @@ fn table_room() -> [u64; 4096]
     [0; 4096]
 }
 
-// What was read: so many bytes, or more than there is room for, or a read failed.
-#[derive(Clone, Copy)]
-enum Input {
-    Bytes(usize),
-    Longer,
-    Failed,
-}
-
-// Whether the input has a byte more, once the buffer is full.
-fn at_end<R: Read>(input: &mut R, n: usize) -> Input
+// Whether the input has a byte more, once the buffer is full: the `n` bytes that were read, or none where there are more.
+fn at_end<R: Read>(input: &mut R, n: usize) -> io::Result<Option<usize>>
     ensures { Probed (R.remaining input.old) n result }
 {
     let mut one = [0u8; 1];
     match input.read(&mut one) {
-        Ok(0) => Input::Bytes(n),
-        Ok(_) => Input::Longer,
-        Err(_) => Input::Failed,
+        Ok(0) => Ok(Some(n)),
+        Ok(_) => Ok(None),
+        Err(error) => Err(error),
     }
 }
 
-// Reads until the input ends, the buffer is full or a read fails. A read that fails is not the end of the input.
-fn gather<R: Read>(input: &mut R, buf: &mut [u8]) -> Input
+// Reads until the input ends, the buffer is full or a read fails: how many bytes were read, or none where there are more than there is room for.
+// A read that fails is not the end of the input.
+fn gather<R: Read>(input: &mut R, buf: &mut [u8]) -> io::Result<Option<usize>>
     ensures { Gathered (R.remaining input.old) buf.new result }
 {
     let mut done = 0;
     while done < buf.len() {
         match input.read(&mut buf[done..]) {
-            Ok(0) => return Input::Bytes(done),
+            Ok(0) => return Ok(Some(done)),
             Ok(n) => done += n,
-            Err(_) => return Input::Failed,
+            Err(error) => return Err(error),
         }
     }
     at_end(input, done)
@@ -101,14 +94,8 @@ fn line<W: Write>(out: &mut W, start: u64, skipped: u64, length: u64, k: u64) ->
 fn lines<W: Write>(out: &mut W, table: &[u64], used: usize) -> io::Result<()>
     ensures { OnOk result (Appends (W.contents out.old) (W.contents out.new) (entry_lines (take used (entries_in table.now)))) }
 {
-    let mut i = 0;
-    while i < used {
-        if table.len() / 4 <= i {
-            return Ok(());
-        }
-        let at = 4 * i;
-        line(out, table[at], table[at + 1], table[at + 2], table[at + 3])?;
-        i += 1;
+    for e in table.chunks_exact(4).take(used) {
+        line(out, e[0], e[1], e[2], e[3])?;
     }
     Ok(())
 }
@@ -117,14 +104,8 @@ fn lines<W: Write>(out: &mut W, table: &[u64], used: usize) -> io::Result<()>
 fn struct_lines<W: Write>(out: &mut W, table: [Entry; 1024], used: usize) -> io::Result<()>
     ensures { OnOk result (Appends (W.contents out.old) (W.contents out.new) (entry_lines (take used table))) }
 {
-    let mut i = 0;
-    while i < used {
-        if 1024 <= i {
-            return Ok(());
-        }
-        let e = table[i];
+    for e in table.iter().take(used) {
         line(out, e.start, e.skipped, e.length, e.kind)?;
-        i += 1;
     }
     Ok(())
 }
@@ -215,9 +196,9 @@ fn read_and_show<R: Read, W: Write, E: Write>(
 {
     let mut buf = room();
     match gather(input, &mut buf) {
-        Input::Bytes(n) => show_first(out, &buf, n, structs),
-        Input::Longer => out.write_all(b"refused: over 65536\n"),
-        Input::Failed => unreadable(errors),
+        Ok(Some(n)) => show_first(out, &buf, n, structs),
+        Ok(None) => out.write_all(b"refused: over 65536\n"),
+        Err(_) => unreadable(errors),
     }
 }
 

@@ -19,8 +19,8 @@ use borrow.Author.Tests.{eqb-true, eq-eqb}
 use Rattle.wire.specs.Parser.{pick}
 use Rattle.mark.specs.First.{stands_at_of, places, find}
 use Rattle.mark.specs.Block.{is_end_of, is_mark}
-use Rattle.mark.specs.declared.Found.{Found}
 use Rattle.mark.proofs.Laws.{hit, miss, find_stable, none_skips}
+use Rattle.std.specs.Prelude.{Some, None}
 
 -- what holds of any four bytes holds of a mark that has four
 of_four : (P : List ℕ → Type 0) → ((w x y z : ℕ) → P (w ∷ x ∷ y ∷ z ∷ [])) → (p : List ℕ) → length p ≡ 4 → P p
@@ -87,7 +87,7 @@ module _ (a b c d w x y z : ℕ) where
 
 -- ---- `find` at a place, by the four bytes there
 module _ (p s : List ℕ) (i : ℕ) (f : length p ≡ 4) (l : i + 4 ≤ length s) where
-  pub mark_hit : is_mark p (get_or s i 0) (get_or s (i + 1) 0) (get_or s (i + 2) 0) (get_or s (i + 3) 0) ≡ true → find p s i ≡ Found.At i
+  pub mark_hit : is_mark p (get_or s i 0) (get_or s (i + 1) 0) (get_or s (i + 2) 0) (get_or s (i + 3) 0) ≡ true → find p s i ≡ Some i
   mark_hit e = hit p s i (omega arith) (omega arith) (stands_mark p s i f ∙ e)
 
   pub mark_miss : is_mark p (get_or s i 0) (get_or s (i + 1) 0) (get_or s (i + 2) 0) (get_or s (i + 3) 0) ≡ false → find p s i ≡ find p s (i + 1)
@@ -105,10 +105,10 @@ none_next p s at i k none false f q l h b e =
 
 -- ---- what a search of the first e bytes tells of them all
 module _ (p s : List ℕ) (e at : ℕ) (f : length p ≡ 4) where
-  pub part_found : (k : ℕ) → find p (take e s) at ≡ Found.At k → find p s at ≡ Found.At k
+  pub part_found : (k : ℕ) → find p (take e s) at ≡ Some k → find p s at ≡ Some k
   part_found k h = rw (take-append-drop e s) at (find_stable p (take e s) (drop e s) at k (omega arith) h)
 
-  pub part_none : at + 4 ≤ e → e ≤ length s → find p (take e s) at ≡ Found.Nothing → find p s at ≡ find p s (e - 3)
+  pub part_none : at + 4 ≤ e → e ≤ length s → find p (take e s) at ≡ None → find p s at ≡ find p s (e - 3)
   part_none l m h =
       let w : length (take e s) ≡ e = simp length-take (omega arith) in
       let q : at + places p (take e s) at ≡ e - 3 = omega arith in

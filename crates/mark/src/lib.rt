@@ -7,15 +7,7 @@
 ghost use Rattle.std.specs.Prelude.{◌≡◌, Bool, true, false, ◌+◌, ◌*◌, ◌≤◌, length};
 ghost use Rattle.wire.specs.Parser.{pick};
 ghost use Rattle.mark.specs.First.{pattern, find};
-ghost use Rattle.mark.specs.declared.Found.{Found};
 ghost use Rattle.mark.specs.Block.{is_end_of, is_mark};
-
-// A search's answer.
-#[derive(Clone, Copy)]
-pub enum Found {
-    At(usize),
-    Nothing,
-}
 
 // The storage pattern.
 const PATTERN: [u8; 4] = *b"DLT\x01";
@@ -136,24 +128,24 @@ fn skip_blocks(s: &[u8], at: usize, n: usize, end: usize) -> usize
 }
 
 // The first place from `at` on where the four bytes of the pattern stand: over positions, and over the pattern's bytes at each.
-fn plain_search(s: &[u8], at: usize) -> Found
+fn plain_search(s: &[u8], at: usize) -> Option<usize>
     ensures { result ≡ find pattern s.now at }
 {
     let rest = wire::left(s, at);
     if rest < 4 {
-        return Found::Nothing;
+        return None;
     }
     let last = s.len() - 4;
     let mut i = at;
     let found = 'places: loop {
         if last < i {
-            break 'places Found::Nothing;
+            break 'places None;
         }
         let mut j = 0;
         while s[i + j] == PATTERN[j] {
             j += 1;
             if j == 4 {
-                break 'places Found::At(i);
+                break 'places Some(i);
             }
         }
         i += 1;
@@ -163,7 +155,7 @@ fn plain_search(s: &[u8], at: usize) -> Found
 
 // The first place after longer junk: four short blocks, then long ones, then short ones again. What is left to the plain search is the short block
 // where the pattern stands, or the fewer places at the end.
-fn search_far(s: &[u8], at: usize) -> Found
+fn search_far(s: &[u8], at: usize) -> Option<usize>
     requires { at ≤ length s.now }
     ensures { result ≡ find pattern s.now at }
 {
@@ -178,15 +170,15 @@ fn search_far(s: &[u8], at: usize) -> Found
 }
 
 // The first place after junk. Most junk is short, so sixteen places are tried one by one: those that begin and end within 19 bytes.
-fn search_near(s: &[u8], at: usize) -> Found
+fn search_near(s: &[u8], at: usize) -> Option<usize>
     ensures { result ≡ find pattern s.now at }
 {
     if 19 <= wire::left(s, at) {
         let end = at + 19;
         let part = &s[..end];
         match plain_search(part, at) {
-            Found::At(i) => return Found::At(i),
-            Found::Nothing => return search_far(s, at + 16),
+            Some(i) => return Some(i),
+            None => return search_far(s, at + 16),
         }
     }
     plain_search(s, at)
@@ -194,46 +186,38 @@ fn search_near(s: &[u8], at: usize) -> Found
 
 // The first place after junk, as a number: the length where there is none.
 fn next_place(s: &[u8], at: usize) -> usize
-    ensures { (result + 1 ≤ length s.now → find pattern s.now at ≡ Found.At result) × (length s.now ≤ result → find pattern s.now at ≡ Found.Nothing) }
+    ensures { (result + 1 ≤ length s.now → find pattern s.now at ≡ Some result) × (length s.now ≤ result → find pattern s.now at ≡ None) }
 {
     match search_near(s, at) {
-        Found::At(i) => i,
-        Found::Nothing => s.len(),
+        Some(i) => i,
+        None => s.len(),
     }
 }
 
 // The first place where the storage pattern stands.
-pub fn first_storage_header(s: &[u8]) -> Found
+pub fn first_storage_header(s: &[u8]) -> Option<usize>
     ensures { result ≡ find pattern s.now 0 }
 {
     if s.len() < 4 {
-        return Found::Nothing;
+        return None;
     }
     if same_number(s[0], s[1], s[2], s[3]) {
-        return Found::At(0);
+        return Some(0);
     }
     let i = next_place(s, 1);
-    if i < s.len() {
-        Found::At(i)
-    } else {
-        Found::Nothing
-    }
+    if i < s.len() { Some(i) } else { None }
 }
 
 // The first place from `at` on where the storage pattern stands.
-pub fn forward_to_next_storage_header(s: &[u8], at: usize) -> Found
+pub fn forward_to_next_storage_header(s: &[u8], at: usize) -> Option<usize>
     ensures { result ≡ find pattern s.now at }
 {
     if wire::left(s, at) < 4 {
-        return Found::Nothing;
+        return None;
     }
     if same_number(s[at], s[at + 1], s[at + 2], s[at + 3]) {
-        return Found::At(at);
+        return Some(at);
     }
     let i = next_place(s, at + 1);
-    if i < s.len() {
-        Found::At(i)
-    } else {
-        Found::Nothing
-    }
+    if i < s.len() { Some(i) } else { None }
 }

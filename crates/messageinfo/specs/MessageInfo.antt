@@ -1,28 +1,27 @@
 -- Document 01, step 4: the message info byte. Bit 0 is verbose, bits 1 to 3 the type, 4 to 7 the subtype.
 -- Every byte has a message type: none is refused (reasons, `no-info-refused`).
-use Rattle.std.specs.Prelude.{ℕ, ◌/◌, ◌%◌, eqb}
+use Rattle.std.specs.Prelude.{ℕ, ◌/◌, ◌%◌, eqb, Option, Some, None}
 use Rattle.wire.specs.Parser.{pick}
 use Rattle.messageinfo.specs.declared.LogLevel.{LogLevel}
-use Rattle.messageinfo.specs.declared.OptLevel.{OptLevel}
 use Rattle.messageinfo.specs.declared.ApplicationTraceType.{ApplicationTraceType}
 use Rattle.messageinfo.specs.declared.NetworkTraceType.{NetworkTraceType}
 use Rattle.messageinfo.specs.declared.ControlType.{ControlType}
 use Rattle.messageinfo.specs.declared.MessageType.{MessageType}
 
 -- the levels by their number
-unfoldable pub known_level : ℕ → OptLevel
+unfoldable pub known_level : ℕ → Option LogLevel
 known_level n =
-    pick (eqb n 1) (OptLevel.Present LogLevel.Fatal)
-    (pick (eqb n 2) (OptLevel.Present LogLevel.Error)
-    (pick (eqb n 3) (OptLevel.Present LogLevel.Warn)
-    (pick (eqb n 4) (OptLevel.Present LogLevel.Info)
-    (pick (eqb n 5) (OptLevel.Present LogLevel.Debug)
-    (pick (eqb n 6) (OptLevel.Present LogLevel.Verbose) OptLevel.Absent)))))
+    pick (eqb n 1) (Some LogLevel.Fatal)
+    (pick (eqb n 2) (Some LogLevel.Error)
+    (pick (eqb n 3) (Some LogLevel.Warn)
+    (pick (eqb n 4) (Some LogLevel.Info)
+    (pick (eqb n 5) (Some LogLevel.Debug)
+    (pick (eqb n 6) (Some LogLevel.Verbose) None)))))
 
 -- a number that is no level's is kept
-abbrev pub level_or : ℕ → OptLevel → LogLevel
-level_or n (OptLevel.Present level) = level
-level_or n OptLevel.Absent = LogLevel.Invalid n
+abbrev pub level_or : ℕ → Option LogLevel → LogLevel
+level_or n (Some level) = level
+level_or n None = LogLevel.Invalid n
 
 unfoldable pub log_level_of : ℕ → LogLevel
 log_level_of n = level_or n (known_level n)

@@ -9,10 +9,8 @@ use borrow.Author.Tests.{le-leb, lt-leb}
 use Rattle.table.specs.Over.{over}
 use Rattle.wire.specs.declared.Range.{Range}
 use Rattle.cursor.specs.declared.RawCursor.{RawCursor}
-use Rattle.headertype.specs.declared.OptText.{OptText}
 use Rattle.dlt.specs.declared.Argument.{Argument}
 use Rattle.dlt.specs.declared.FixedPoint.{FixedPoint}
-use Rattle.dlt.specs.declared.OptPoint.{OptPoint}
 use Rattle.dlt.specs.declared.TypeInfo.{TypeInfo}
 use Rattle.dlt.specs.declared.TypeInfoKind.{TypeInfoKind}
 use Rattle.dlt.specs.declared.Value.{Value}
@@ -20,6 +18,8 @@ use Rattle.numbers.specs.Layout.{one_if_of, text_numbers, text_end_of}
 use Rattle.numbers.specs.Arguments.{kind_number_of, kind_bits_of, coding_number_of, value_number_of, value_first_of, value_second_of, value_end_of, offset_width_of, offset_bits_of, kind_numbers, coding_numbers, point_numbers, value_numbers, type_numbers, name_numbers, content_numbers, argument_ends, argument_numbers, argument_laid}
 use Rattle.numbers.specs.Raw.{raw_numbers, raw_laid}
 use Rattle.numbers.proofs.Rows.{joined, three_groups, four_groups, texts}
+use Rattle.std.specs.Prelude.{Option, Some, None}
+use Rattle.wire.specs.declared.Text.{Text}
 
 -- ---- where calls gave the numbers: x, y and z
 module _ (T X : List ℕ) (j x y z : ℕ) where
@@ -31,7 +31,7 @@ module _ (T X : List ℕ) (j x y z : ℕ) where
   unfolding coding_numbers
   coding_row t ex ey ez h = h ∙ rw (ex, ey, ez)
 
-  pub point_row : (o : OptPoint) (p : FixedPoint) → o ≡ OptPoint.Present p → x ≡ offset_width_of p.offset → y ≡ offset_bits_of p.offset → X ≡ over T j (1 ∷ p.pattern ∷ x ∷ y ∷ []) → X ≡ over T j (point_numbers o)
+  pub point_row : (o : Option FixedPoint) (p : FixedPoint) → o ≡ Some p → x ≡ offset_width_of p.offset → y ≡ offset_bits_of p.offset → X ≡ over T j (1 ∷ p.pattern ∷ x ∷ y ∷ []) → X ≡ over T j (point_numbers o)
   unfolding point_numbers
   point_row o p q ex ey h = h ∙ rw (q, ex, ey)
 
@@ -43,15 +43,15 @@ module _ (T X : List ℕ) (j x y z : ℕ) where
   unfolding argument_ends
   argument_ends_row a ex ey ez h = h ∙ rw (ex, ey, ez)
 
-pub no_point : (T X : List ℕ) (j : ℕ) (o : OptPoint) → o ≡ OptPoint.Absent → X ≡ over T j (0 ∷ 0 ∷ 0 ∷ 0 ∷ []) → X ≡ over T j (point_numbers o)
+pub no_point : (T X : List ℕ) (j : ℕ) (o : Option FixedPoint) → o ≡ None → X ≡ over T j (0 ∷ 0 ∷ 0 ∷ 0 ∷ []) → X ≡ over T j (point_numbers o)
 unfolding point_numbers
 no_point T X j o q h = h ∙ rw q
 
 -- ---- how many numbers a group has
-points : (o : OptPoint) → length (point_numbers o) ≡ 4
+points : (o : Option FixedPoint) → length (point_numbers o) ≡ 4
 unfolding point_numbers
-points (OptPoint.Present p) = refl
-points OptPoint.Absent = refl
+points (Some p) = refl
+points None = refl
 
 kinds : (k : TypeInfoKind) → length (kind_numbers k) ≡ 2
 unfolding kind_numbers
@@ -61,7 +61,7 @@ codings : (t : TypeInfo) → length (coding_numbers t) ≡ 3
 unfolding coding_numbers
 codings t = refl
 
-names : (n u : OptText) → length (name_numbers n u) ≡ 6
+names : (n u : Option Text) → length (name_numbers n u) ≡ 6
 unfolding name_numbers
 names n u = omega (arith, length-append (text_numbers n) (text_numbers u), texts n, texts u)
 
@@ -84,7 +84,7 @@ contents a =
     omega (arith, length-append n p, length-append (n ++ p) (value_numbers a.value), names a.name a.unit, points a.fixed_point, values a.value)
 
 -- ---- groups behind one another
-pub names_row : (T A B : List ℕ) (n u : OptText) → 26 ≤ length T → A ≡ over T 10 (text_numbers n) → B ≡ over A 13 (text_numbers u) → B ≡ over T 10 (name_numbers n u)
+pub names_row : (T A B : List ℕ) (n u : Option Text) → 26 ≤ length T → A ≡ over T 10 (text_numbers n) → B ≡ over A 13 (text_numbers u) → B ≡ over T 10 (name_numbers n u)
 unfolding name_numbers
 names_row T A B n u fits p q = joined T A B (text_numbers n) (text_numbers u) 10 13 p q (omega (arith, texts n)) (omega arith)
 

@@ -10,11 +10,9 @@ use borrow.Author.Tests.{le-leb, lt-leb}
 use Rattle.table.specs.Over.{over}
 use Rattle.wire.specs.Parser.{pick}
 use Rattle.wire.specs.Number.{number_of}
-use Rattle.wire.specs.Run.{range, text_ans}
+use Rattle.wire.specs.Run.{range}
 use Rattle.wire.specs.declared.Ended.{Ended}
 use Rattle.wire.specs.declared.Text.{Text}
-use Rattle.wire.specs.declared.TextAns.{TextAns}
-use Rattle.wire.specs.declared.GotText.{GotText}
 use Rattle.wire.proofs.Step.{told}
 use Rattle.strings.specs.Text.{letter, text_of, ended_text, identified}
 use Rattle.strings.proofs.Strings.{letters_three, letters_four, letters_all, letters_end}
@@ -27,7 +25,6 @@ use Rattle.headers.specs.Standard.{endian_of, header_of_lem}
 use Rattle.headers.specs.Extended.{extended_of_lem}
 use Rattle.headers.proofs.Inverse.{same_value, no_need}
 use Rattle.storage.specs.Storage.{stored_of}
-use Rattle.filtering.specs.declared.OptExtended.{OptExtended}
 use Rattle.payload.specs.declared.PayloadContent.{PayloadContent}
 use Rattle.parse.specs.Message.{item_of}
 use Rattle.outline.specs.There.{behind, id_if, number_if, standard_at, extended_place_of, extended_at, extended_if, stored_at}
@@ -36,6 +33,11 @@ use Rattle.outline.proofs.There.{id_there}
 use Rattle.numbers.specs.Layout.{one_if_of, order_number, text_numbers, num_numbers, storage_numbers, front_numbers, standard_numbers, extended_numbers, payload_numbers, ended_number_of, text_end_of, stored_end_of, application_end_of, context_end_of, lead_numbers}
 use Rattle.numbers.specs.Outlined.{outlined_item, outlined_laid}
 use Rattle.numbers.proofs.Rows.{ends_row, standard_row, lead_row, item_row, message_short}
+use Rattle.std.specs.Prelude.{Option, Result, Ok, Err}
+use Rattle.messageinfo.specs.declared.ExtendedHeader.{ExtendedHeader}
+use Rattle.wire.specs.declared.Got.{Got}
+use Rattle.wire.specs.declared.Need.{Need}
+use Rattle.wire.specs.Answers.{need_ans}
 
 -- ---- fields that are there
 module _ (s : List ℕ) (at : ℕ) where
@@ -59,11 +61,11 @@ module _ (s : List ℕ) (at : ℕ) where
         let e : at + 0 ≡ at = omega arith in
         rw (z, e) (omega (arith, ea, eb, ec, ed))
 
-  pub id_read : (x : TextAns) (g : GotText) → at + 4 ≤ length s → text_ans x ≡ identified s at → x ≡ TextAns.Done g → record { place = g.v.place; ended = g.v.ended } ≡ ended_text 4 s at
-  id_read x g h e q = sym (same_value (sym (told text_ans e q) ∙ id_there s at h)).0
+  pub id_read : (x : Result (Got Text) Need) (g : Got Text) → at + 4 ≤ length s → need_ans x ≡ identified s at → x ≡ Ok g → record { place = g.v.place; ended = g.v.ended } ≡ ended_text 4 s at
+  id_read x g h e q = sym (same_value (sym (told need_ans e q) ∙ id_there s at h)).0
 
-  pub id_missing : (x : TextAns) (n : ℕ) → at + 4 ≤ length s → text_ans x ≡ identified s at → x ≡ TextAns.Need n → record { place = range at 0; ended = Ended.Size } ≡ ended_text 4 s at
-  id_missing x n h e q = no_need (sym (told text_ans e q) ∙ id_there s at h)
+  pub id_missing : (x : Result (Got Text) Need) (n : Need) → at + 4 ≤ length s → need_ans x ≡ identified s at → x ≡ Err n → record { place = range at 0; ended = Ended.Size } ≡ ended_text 4 s at
+  id_missing x n h e q = no_need (sym (told need_ans e q) ∙ id_there s at h)
 
 -- ---- identifiers of four letters
 module _ (b : ℕ) where
@@ -213,7 +215,7 @@ module _ (T : List ℕ) (s : List ℕ) (o : Outline) (p : PayloadContent) (l : �
       → D ≡ over C 33 (w ∷ x ∷ y ∷ z ∷ []) → D ≡ outlined_laid T s o p
   unfolding outlined_laid outlined_item item_of
   outlined-row A B C D a w x y z h fits e p1 p2 p3 q1 q2 q3 q4 p4 =
-      let place : ℕ → OptExtended = λ m. extended_if (flag 1 t) s m in
+      let place : ℕ → Option ExtendedHeader = λ m. extended_if (flag 1 t) s m in
       item_row T A B C fits D (record {
         storage_header = stored_at s o.place;
         header = standard_at t o.length s (o.place + 16);

@@ -8,11 +8,7 @@ use lib.ListN.{length, set, length-append}
 use borrow.Author.Tests.{le-leb, lt-leb}
 use Rattle.table.specs.Over.{over}
 use Rattle.table.proofs.Laws.{stores, over_over}
-use Rattle.headertype.specs.declared.OptNum.{OptNum}
-use Rattle.headertype.specs.declared.OptText.{OptText}
 use Rattle.headertype.specs.declared.StandardHeader.{StandardHeader}
-use Rattle.storage.specs.declared.OptStored.{OptStored}
-use Rattle.filtering.specs.declared.OptExtended.{OptExtended}
 use Rattle.payload.specs.declared.PayloadContent.{PayloadContent}
 use Rattle.cursor.specs.declared.Cursor.{Cursor}
 use Rattle.cursor.specs.declared.RawCursor.{RawCursor}
@@ -24,6 +20,9 @@ use Rattle.parse.specs.declared.Headers.{Headers}
 use Rattle.parse.specs.declared.ParsedMessage.{ParsedMessage}
 use Rattle.messageinfo.specs.Kept.{control_number_of, type_number_of, subtype_number_of}
 use Rattle.numbers.specs.Layout.{one_if_of, order_number, text_numbers, num_numbers, storage_numbers, front_numbers, standard_numbers, extended_numbers, payload_numbers, text_end_of, stored_end_of, application_end_of, context_end_of, end_numbers, lead_numbers, item_numbers, message_numbers, message_laid}
+use Rattle.std.specs.Prelude.{Option, Some, None}
+use Rattle.storage.specs.declared.Stored.{Stored}
+use Rattle.wire.specs.declared.Text.{Text}
 
 module _ (T : List ℕ) (k : ℕ) where
   pub row2 : (a b : ℕ) → k + 2 ≤ length T → set (set T k a) (k + 1) b ≡ over T k (a ∷ b ∷ [])
@@ -50,16 +49,16 @@ joined T X Y v u k n p q e h = q ∙ rw (p, e) (over_over T k v (omega arith) u)
 
 -- ---- the variant that was matched for the enum's value
 module _ (T X : List ℕ) (k : ℕ) where
-  pub text_at : (o o' : OptText) → o ≡ o' → X ≡ over T k (text_numbers o') → X ≡ over T k (text_numbers o)
+  pub text_at : (o o' : Option Text) → o ≡ o' → X ≡ over T k (text_numbers o') → X ≡ over T k (text_numbers o)
   text_at o o' q h = rw q h
 
-  pub num_at : (o o' : OptNum) → o ≡ o' → X ≡ over T k (num_numbers o') → X ≡ over T k (num_numbers o)
+  pub num_at : (o o' : Option ℕ) → o ≡ o' → X ≡ over T k (num_numbers o') → X ≡ over T k (num_numbers o)
   num_at o o' q h = rw q h
 
-  pub storage_at : (o o' : OptStored) → o ≡ o' → X ≡ over T k (storage_numbers o') → X ≡ over T k (storage_numbers o)
+  pub storage_at : (o o' : Option Stored) → o ≡ o' → X ≡ over T k (storage_numbers o') → X ≡ over T k (storage_numbers o)
   storage_at o o' q h = rw q h
 
-  pub extended_at_lem : (o o' : OptExtended) → o ≡ o' → X ≡ over T k (extended_numbers o') → X ≡ over T k (extended_numbers o)
+  pub extended_at_lem : (o o' : Option ExtendedHeader) → o ≡ o' → X ≡ over T k (extended_numbers o') → X ≡ over T k (extended_numbers o)
   extended_at_lem o o' q h = rw q h
 
   pub payload_at : (o o' : PayloadContent) → o ≡ o' → X ≡ over T k (payload_numbers o') → X ≡ over T k (payload_numbers o)
@@ -79,7 +78,7 @@ module _ (T X : List ℕ) (k : ℕ) (p : PayloadContent) (y : ℕ) where
   unfolding payload_numbers
   control_row t r q e h = h ∙ rw (q, e)
 
-pub extended_row : (T X : List ℕ) (k : ℕ) (o : OptExtended) (x : ExtendedHeader) (v n m : ℕ) → o ≡ OptExtended.Present x → v ≡ one_if_of x.verbose → n ≡ type_number_of x.message_type
+pub extended_row : (T X : List ℕ) (k : ℕ) (o : Option ExtendedHeader) (x : ExtendedHeader) (v n m : ℕ) → o ≡ Some x → v ≡ one_if_of x.verbose → n ≡ type_number_of x.message_type
     → m ≡ subtype_number_of x.message_type
     → X ≡ over T k (1 ∷ v ∷ x.argument_count ∷ n ∷ m ∷ x.application_id.place.start ∷ x.application_id.place.len ∷ x.context_id.place.start ∷ x.context_id.place.len ∷ [])
     → X ≡ over T k (extended_numbers o)
@@ -87,25 +86,25 @@ unfolding extended_numbers
 extended_row T X k o x v n m q ev en em h = h ∙ rw (q, ev, en, em)
 
 -- ---- how many numbers a group has
-pub texts : (o : OptText) → length (text_numbers o) ≡ 3
+pub texts : (o : Option Text) → length (text_numbers o) ≡ 3
 unfolding text_numbers
-texts (OptText.Present t) = refl
-texts OptText.Absent = refl
+texts (Some t) = refl
+texts None = refl
 
-pub nums : (o : OptNum) → length (num_numbers o) ≡ 2
+pub nums : (o : Option ℕ) → length (num_numbers o) ≡ 2
 unfolding num_numbers
-nums (OptNum.Present n) = refl
-nums OptNum.Absent = refl
+nums (Some n) = refl
+nums None = refl
 
-pub storages : (o : OptStored) → length (storage_numbers o) ≡ 6
+pub storages : (o : Option Stored) → length (storage_numbers o) ≡ 6
 unfolding storage_numbers
-storages (OptStored.Present x) = refl
-storages OptStored.Absent = refl
+storages (Some x) = refl
+storages None = refl
 
-pub extendeds : (o : OptExtended) → length (extended_numbers o) ≡ 9
+pub extendeds : (o : Option ExtendedHeader) → length (extended_numbers o) ≡ 9
 unfolding extended_numbers
-extendeds (OptExtended.Present x) = refl
-extendeds OptExtended.Absent = refl
+extendeds (Some x) = refl
+extendeds None = refl
 
 pub payloads : (o : PayloadContent) → length (payload_numbers o) ≡ 5
 unfolding payload_numbers
@@ -150,7 +149,7 @@ unfolding front_numbers
 front_row T X h x y ex ey p = p ∙ rw (ex, ey)
 
 -- a to d are what calls gave for why the four identifiers ended
-pub ends_row : (T X : List ℕ) (o : OptStored) (h : StandardHeader) (x : OptExtended) (a b c d : ℕ) → a ≡ stored_end_of o → b ≡ text_end_of h.ecu_id → c ≡ application_end_of x → d ≡ context_end_of x
+pub ends_row : (T X : List ℕ) (o : Option Stored) (h : StandardHeader) (x : Option ExtendedHeader) (a b c d : ℕ) → a ≡ stored_end_of o → b ≡ text_end_of h.ecu_id → c ≡ application_end_of x → d ≡ context_end_of x
     → X ≡ over T 33 (a ∷ b ∷ c ∷ d ∷ []) → X ≡ over T 33 (end_numbers o h x)
 unfolding end_numbers
 ends_row T X o h x a b c d ea eb ec ed p = p ∙ rw (ea, eb, ec, ed)
@@ -164,7 +163,7 @@ standard_row T A B C D h fits p q r s =
     (omega (arith, texts h.ecu_id)) (omega (arith, nums h.session_id)) (omega arith)
 
 -- what the calls of `put_lead` and of `put_item` leave
-pub leads : (o : OptStored) (h : StandardHeader) → length (lead_numbers o h) ≡ 19
+pub leads : (o : Option Stored) (h : StandardHeader) → length (lead_numbers o h) ≡ 19
 unfolding lead_numbers
 leads o h =
     let a : List ℕ = 0 ∷ h.payload_length ∷ [] in
@@ -172,7 +171,7 @@ leads o h =
     omega (arith, length-append a b, length-append (a ++ b) (standard_numbers h), storages o, standards h)
 
 module _ (T A B C : List ℕ) (fits : 37 ≤ length T) where
-  pub lead_row : (o : OptStored) (h : StandardHeader) → A ≡ over T 0 (0 ∷ h.payload_length ∷ []) → B ≡ over A 2 (storage_numbers o) → C ≡ over B 8 (standard_numbers h)
+  pub lead_row : (o : Option Stored) (h : StandardHeader) → A ≡ over T 0 (0 ∷ h.payload_length ∷ []) → B ≡ over A 2 (storage_numbers o) → C ≡ over B 8 (standard_numbers h)
       → C ≡ over T 0 (lead_numbers o h)
   unfolding lead_numbers
   lead_row o h p q r =

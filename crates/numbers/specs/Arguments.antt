@@ -1,22 +1,22 @@
 -- The numbers of an argument and of the cursor behind it, in the order in which a host finds them in the slice that it lends. A place is counted
 -- from 0. What is absent has 0 for its flag and for its values. A text or a run of bytes is its place in the bytes and its length; why a text ended stands
 -- behind everything else.
-use Rattle.std.specs.Prelude.{ℕ, ◌-◌, Bool, List, [], ◌∷◌, ◌++◌, length, ℤ, pos, negsuc, leb}
+use Rattle.std.specs.Prelude.{ℕ, ◌-◌, Bool, List, [], ◌∷◌, ◌++◌, length, ℤ, pos, negsuc, leb, Option, Some, None}
 use Rattle.std.specs.Float.{binary32, binary64}
 use Rattle.std.specs.Float.Ieee.{to_bits}
 use Rattle.wire.specs.Parser.{pick}
 use Rattle.table.specs.Over.{over}
-use Rattle.headertype.specs.declared.OptText.{OptText}
 use Rattle.dlt.specs.declared.Argument.{Argument}
 use Rattle.dlt.specs.declared.FixedPointValue.{FixedPointValue}
 use Rattle.dlt.specs.declared.FloatWidth.{FloatWidth}
-use Rattle.dlt.specs.declared.OptPoint.{OptPoint}
 use Rattle.dlt.specs.declared.StringCoding.{StringCoding}
 use Rattle.dlt.specs.declared.TypeInfo.{TypeInfo}
 use Rattle.dlt.specs.declared.TypeInfoKind.{TypeInfoKind}
 use Rattle.dlt.specs.declared.TypeLength.{TypeLength}
 use Rattle.dlt.specs.declared.Value.{Value}
 use Rattle.numbers.specs.Layout.{one_if_of, text_numbers, ended_number_of, text_end_of}
+use Rattle.dlt.specs.declared.FixedPoint.{FixedPoint}
+use Rattle.wire.specs.declared.Text.{Text}
 
 -- a signed number by two's complement of 64 bits; `negsuc n` is the negative of n + 1
 abbrev pub signed_bits_of : ℤ → ℕ
@@ -158,12 +158,12 @@ unfoldable pub type_numbers : Argument → List ℕ
 type_numbers a = ((a.start ∷ a.end ∷ []) ++ kind_numbers a.type_info.kind) ++ coding_numbers a.type_info
 
 -- ---- from place 10 on, thirteen: name; unit; fixed point or not, the quantization's pattern, the offset's bits, the offset; the value
-unfoldable pub name_numbers : OptText → OptText → List ℕ
+unfoldable pub name_numbers : Option Text → Option Text → List ℕ
 name_numbers name unit = text_numbers name ++ text_numbers unit
 
-unfoldable pub point_numbers : OptPoint → List ℕ
-point_numbers (OptPoint.Present p) = 1 ∷ p.pattern ∷ offset_width_of p.offset ∷ offset_bits_of p.offset ∷ []
-point_numbers OptPoint.Absent = 0 ∷ 0 ∷ 0 ∷ 0 ∷ []
+unfoldable pub point_numbers : Option FixedPoint → List ℕ
+point_numbers (Some p) = 1 ∷ p.pattern ∷ offset_width_of p.offset ∷ offset_bits_of p.offset ∷ []
+point_numbers None = 0 ∷ 0 ∷ 0 ∷ 0 ∷ []
 
 unfoldable pub value_numbers : Value → List ℕ
 value_numbers v = value_number_of v ∷ value_first_of v ∷ value_second_of v ∷ []

@@ -1,21 +1,20 @@
 -- The numbers of a message, in the order in which a host finds them in the slice that it lends. A place is counted from 0. What is absent has
 -- 0 for its flag and for its values. An identifier or a run of bytes is its place in the bytes of the message and its length; why an identifier ended stands
 -- behind everything else.
-use Rattle.std.specs.Prelude.{ℕ, Bool, true, false, List, [], ◌∷◌, ◌++◌, length, leb}
+use Rattle.std.specs.Prelude.{ℕ, Bool, true, false, List, [], ◌∷◌, ◌++◌, length, leb, Option, Some, None}
 use Rattle.wire.specs.Parser.{pick}
 use Rattle.table.specs.Over.{over}
 use Rattle.headertype.specs.declared.Endianness.{Endianness}
-use Rattle.headertype.specs.declared.OptNum.{OptNum}
 use Rattle.wire.specs.declared.Ended.{Ended}
-use Rattle.headertype.specs.declared.OptText.{OptText}
 use Rattle.headertype.specs.declared.StandardHeader.{StandardHeader}
 -- the type and the subtype of a message are the numbers that its message info had: messageinfo, specs/Kept.antt
 use Rattle.messageinfo.specs.Kept.{control_number_of, type_number_of, subtype_number_of}
-use Rattle.storage.specs.declared.OptStored.{OptStored}
-use Rattle.filtering.specs.declared.OptExtended.{OptExtended}
 use Rattle.payload.specs.declared.PayloadContent.{PayloadContent}
 use Rattle.parse.specs.declared.Message.{Message}
 use Rattle.parse.specs.declared.ParsedMessage.{ParsedMessage}
+use Rattle.storage.specs.declared.Stored.{Stored}
+use Rattle.messageinfo.specs.declared.ExtendedHeader.{ExtendedHeader}
+use Rattle.wire.specs.declared.Text.{Text}
 
 abbrev pub one_if_of : Bool → ℕ
 one_if_of true = 1
@@ -27,19 +26,19 @@ order_number Endianness.Little = 0
 order_number Endianness.Big = 1
 
 -- ---- present or not, start, length; present or not, the number
-unfoldable pub text_numbers : OptText → List ℕ
-text_numbers (OptText.Present t) = 1 ∷ t.place.start ∷ t.place.len ∷ []
-text_numbers OptText.Absent = 0 ∷ 0 ∷ 0 ∷ []
+unfoldable pub text_numbers : Option Text → List ℕ
+text_numbers (Some t) = 1 ∷ t.place.start ∷ t.place.len ∷ []
+text_numbers None = 0 ∷ 0 ∷ 0 ∷ []
 
-unfoldable pub num_numbers : OptNum → List ℕ
-num_numbers (OptNum.Present n) = 1 ∷ n ∷ []
-num_numbers OptNum.Absent = 0 ∷ 0 ∷ []
+unfoldable pub num_numbers : Option ℕ → List ℕ
+num_numbers (Some n) = 1 ∷ n ∷ []
+num_numbers None = 0 ∷ 0 ∷ []
 
 -- ---- from place 2 on, six: present or not, seconds, microseconds, ECU id, bytes skipped before the pattern
-unfoldable pub storage_numbers : OptStored → List ℕ
-storage_numbers (OptStored.Present x) =
+unfoldable pub storage_numbers : Option Stored → List ℕ
+storage_numbers (Some x) =
     1 ∷ x.header.timestamp.seconds ∷ x.header.timestamp.microseconds ∷ x.header.ecu_id.place.start ∷ x.header.ecu_id.place.len ∷ x.skipped ∷ []
-storage_numbers OptStored.Absent = 0 ∷ 0 ∷ 0 ∷ 0 ∷ 0 ∷ 0 ∷ []
+storage_numbers None = 0 ∷ 0 ∷ 0 ∷ 0 ∷ 0 ∷ 0 ∷ []
 
 -- ---- from place 8 on, eleven: version, big-endian or not, extended header or not, counter; ECU id; session id; timestamp
 unfoldable pub front_numbers : StandardHeader → List ℕ
@@ -49,8 +48,8 @@ unfoldable pub standard_numbers : StandardHeader → List ℕ
 standard_numbers h = ((front_numbers h ++ text_numbers h.ecu_id) ++ num_numbers h.session_id) ++ num_numbers h.timestamp
 
 -- ---- from place 19 on, nine: present or not, verbose or not, argument count, type, subtype, application id, context id
-unfoldable pub extended_numbers : OptExtended → List ℕ
-extended_numbers (OptExtended.Present x) =
+unfoldable pub extended_numbers : Option ExtendedHeader → List ℕ
+extended_numbers (Some x) =
     1
     ∷ one_if_of x.verbose
     ∷ x.argument_count
@@ -61,7 +60,7 @@ extended_numbers (OptExtended.Present x) =
     ∷ x.context_id.place.start
     ∷ x.context_id.place.len
     ∷ []
-extended_numbers OptExtended.Absent = 0 ∷ 0 ∷ 0 ∷ 0 ∷ 0 ∷ 0 ∷ 0 ∷ 0 ∷ 0 ∷ []
+extended_numbers None = 0 ∷ 0 ∷ 0 ∷ 0 ∷ 0 ∷ 0 ∷ 0 ∷ 0 ∷ 0 ∷ []
 
 -- ---- from place 28 on, five: kind, id, start, length, big-endian or not. Of a list of arguments it is the cursor: where the next stands, how
 -- many are left
@@ -77,28 +76,28 @@ ended_number_of Ended.Zero = 1
 ended_number_of Ended.Size = 2
 ended_number_of Ended.Invalid = 3
 
-abbrev pub text_end_of : OptText → ℕ
-text_end_of (OptText.Present t) = ended_number_of t.ended
-text_end_of OptText.Absent = 0
+abbrev pub text_end_of : Option Text → ℕ
+text_end_of (Some t) = ended_number_of t.ended
+text_end_of None = 0
 
-abbrev pub stored_end_of : OptStored → ℕ
-stored_end_of (OptStored.Present x) = ended_number_of x.header.ecu_id.ended
-stored_end_of OptStored.Absent = 0
+abbrev pub stored_end_of : Option Stored → ℕ
+stored_end_of (Some x) = ended_number_of x.header.ecu_id.ended
+stored_end_of None = 0
 
-abbrev pub application_end_of : OptExtended → ℕ
-application_end_of (OptExtended.Present x) = ended_number_of x.application_id.ended
-application_end_of OptExtended.Absent = 0
+abbrev pub application_end_of : Option ExtendedHeader → ℕ
+application_end_of (Some x) = ended_number_of x.application_id.ended
+application_end_of None = 0
 
-abbrev pub context_end_of : OptExtended → ℕ
-context_end_of (OptExtended.Present x) = ended_number_of x.context_id.ended
-context_end_of OptExtended.Absent = 0
+abbrev pub context_end_of : Option ExtendedHeader → ℕ
+context_end_of (Some x) = ended_number_of x.context_id.ended
+context_end_of None = 0
 
 -- ---- from place 33 on, four: the storage header's ECU id, the standard header's, application id, context id
-unfoldable pub end_numbers : OptStored → StandardHeader → OptExtended → List ℕ
+unfoldable pub end_numbers : Option Stored → StandardHeader → Option ExtendedHeader → List ℕ
 end_numbers o h x = stored_end_of o ∷ text_end_of h.ecu_id ∷ application_end_of x ∷ context_end_of x ∷ []
 
 -- ---- an item: 0 and the payload length in front
-unfoldable pub lead_numbers : OptStored → StandardHeader → List ℕ
+unfoldable pub lead_numbers : Option Stored → StandardHeader → List ℕ
 lead_numbers o h = ((0 ∷ h.payload_length ∷ []) ++ storage_numbers o) ++ standard_numbers h
 
 unfoldable pub item_numbers : Message → List ℕ

@@ -21,11 +21,10 @@ ghost use Rattle.numbers.specs.Raw.{raw_laid};
 
 use cursor::RawCursor;
 use dlt::{
-    Argument, FixedPointValue, FloatWidth, OptPoint, StringCoding, TypeInfo, TypeInfoKind,
+    Argument, FixedPoint, FixedPointValue, FloatWidth, StringCoding, TypeInfo, TypeInfoKind,
     TypeLength, Value,
 };
-use filtering::OptExtended;
-use headertype::{Endianness, OptNum, OptText, StandardHeader};
+use headertype::{Endianness, StandardHeader};
 use messageinfo::{
     ApplicationTraceType, ControlType, ExtendedHeader, LogLevel, MessageType, NetworkTraceType,
 };
@@ -33,8 +32,8 @@ use outline::Outline;
 use parse::Headers;
 use payload::PayloadContent;
 use reals::{Real32, Real64};
-use storage::OptStored;
-use wire::{Ended, Range, Text, TextAns};
+use storage::Stored;
+use wire::{Ended, Range, Text};
 
 // ---- some numbers in a row, from place `at` on
 
@@ -219,89 +218,89 @@ fn ended_number(e: Ended) -> u64
     }
 }
 
-fn text_end(o: OptText) -> u64
+fn text_end(o: Option<Text>) -> u64
     ensures { result ≡ text_end_of o }
 {
     match o {
-        OptText::Present(t) => {
+        Some(t) => {
             let why = t.ended;
             ended_number(why)
         }
-        OptText::Absent => 0,
+        None => 0,
     }
 }
 
-fn stored_end(o: OptStored) -> u64
-    ensures { result ≡ stored_end_of o }
+fn stored_end(stored: Option<Stored>) -> u64
+    ensures { result ≡ stored_end_of stored }
 {
-    match o {
-        OptStored::Present(x) => {
+    match stored {
+        Some(x) => {
             let header = x.header;
             let id = header.ecu_id;
             let why = id.ended;
             ended_number(why)
         }
-        OptStored::Absent => 0,
+        None => 0,
     }
 }
 
-fn application_end(o: OptExtended) -> u64
+fn application_end(o: Option<ExtendedHeader>) -> u64
     ensures { result ≡ application_end_of o }
 {
     match o {
-        OptExtended::Present(x) => {
+        Some(x) => {
             let id = x.application_id;
             let why = id.ended;
             ended_number(why)
         }
-        OptExtended::Absent => 0,
+        None => 0,
     }
 }
 
-fn context_end(o: OptExtended) -> u64
+fn context_end(o: Option<ExtendedHeader>) -> u64
     ensures { result ≡ context_end_of o }
 {
     match o {
-        OptExtended::Present(x) => {
+        Some(x) => {
             let id = x.context_id;
             let why = id.ended;
             ended_number(why)
         }
-        OptExtended::Absent => 0,
+        None => 0,
     }
 }
 
 // ---- the groups of a message's numbers, each at its place
 
-fn put_text(out: &mut [u64], at: usize, o: OptText)
+fn put_text(out: &mut [u64], at: usize, o: Option<Text>)
     requires { at + 3 ≤ length out.old }
     ensures { out.new ≡ over out.old at (text_numbers o) }
 {
     match o {
-        OptText::Present(t) => {
+        Some(t) => {
             let place = t.place;
             put3(out, at, 1, place.start as u64, place.len as u64)
         }
-        OptText::Absent => put3(out, at, 0, 0, 0),
+        None => put3(out, at, 0, 0, 0),
     }
 }
 
-fn put_num(out: &mut [u64], at: usize, o: OptNum)
+fn put_num(out: &mut [u64], at: usize, o: Option<u32>)
     requires { at + 2 ≤ length out.old }
     ensures { out.new ≡ over out.old at (num_numbers o) }
 {
     match o {
-        OptNum::Present(n) => put2(out, at, 1, n as u64),
-        OptNum::Absent => put2(out, at, 0, 0),
+        Some(n) => put2(out, at, 1, n as u64),
+        None => put2(out, at, 0, 0),
     }
 }
 
-fn put_storage(out: &mut [u64], o: OptStored)
+fn put_storage(out: &mut [u64], o: Option<Stored>)
     requires { 37 ≤ length out.old }
     ensures { out.new ≡ over out.old 2 (storage_numbers o) }
 {
     match o {
-        OptStored::Present(x) => {
+        Some(x) => {
             let h = x.header;
             let time = h.timestamp;
             let ecu = h.ecu_id.place;
@@ -316,7 +315,7 @@ fn put_storage(out: &mut [u64], o: OptStored)
                 x.skipped as u64,
             );
         }
-        OptStored::Absent => put6(out, 2, 0, 0, 0, 0, 0, 0),
+        None => put6(out, 2, 0, 0, 0, 0, 0, 0),
     }
 }
 
@@ -351,12 +350,12 @@ fn put_standard(out: &mut [u64], h: StandardHeader)
     put_num(out, 17, time);
 }
 
-fn put_extended(out: &mut [u64], o: OptExtended)
+fn put_extended(out: &mut [u64], o: Option<ExtendedHeader>)
     requires { 37 ≤ length out.old }
     ensures { out.new ≡ over out.old 19 (extended_numbers o) }
 {
     match o {
-        OptExtended::Present(x) => {
+        Some(x) => {
             let verbose = flag(x.verbose);
             let its_type = x.message_type;
             let kind = type_number(its_type);
@@ -377,7 +376,7 @@ fn put_extended(out: &mut [u64], o: OptExtended)
                 context.len as u64,
             );
         }
-        OptExtended::Absent => put9(out, 19, 0, 0, 0, 0, 0, 0, 0, 0, 0),
+        None => put9(out, 19, 0, 0, 0, 0, 0, 0, 0, 0, 0),
     }
 }
 
@@ -405,7 +404,7 @@ fn put_payload(out: &mut [u64], p: PayloadContent)
 }
 
 // What stands before the extended header's numbers: an item's 0, the payload length, storage and standard header.
-fn put_lead(out: &mut [u64], stored: OptStored, h: StandardHeader)
+fn put_lead(out: &mut [u64], stored: Option<Stored>, h: StandardHeader)
     requires { 37 ≤ length out.old }
     ensures { out.new ≡ over out.old 0 (lead_numbers stored h) }
 {
@@ -415,7 +414,12 @@ fn put_lead(out: &mut [u64], stored: OptStored, h: StandardHeader)
 }
 
 // Why each of the four identifiers ended.
-fn put_ends(out: &mut [u64], stored: OptStored, h: StandardHeader, extended: OptExtended)
+fn put_ends(
+    out: &mut [u64],
+    stored: Option<Stored>,
+    h: StandardHeader,
+    extended: Option<ExtendedHeader>,
+)
     requires { 37 ≤ length out.old }
     ensures { out.new ≡ over out.old 33 (end_numbers stored h extended) }
 {
@@ -502,13 +506,13 @@ fn any_id_at(s: &[u8], at: usize) -> Text
     ensures { result ≡ ended_text 4 s.now at }
 {
     match strings::identifier(s, at) {
-        TextAns::Done(id) => {
+        Ok(id) => {
             let text = id.v;
             let place = text.place;
             let ended = text.ended;
             Text { place, ended }
         }
-        TextAns::Need(_) => Text {
+        Err(_) => Text {
             place: Range { start: at, len: 0 },
             ended: Ended::Size,
         },
@@ -965,18 +969,18 @@ fn put_coding(out: &mut [u64], t: TypeInfo)
     put3(out, 7, coding, variable, trace);
 }
 
-fn put_point(out: &mut [u64], o: OptPoint)
+fn put_point(out: &mut [u64], o: Option<FixedPoint>)
     requires { 26 ≤ length out.old }
     ensures { out.new ≡ over out.old 16 (point_numbers o) }
 {
     match o {
-        OptPoint::Present(p) => {
+        Some(p) => {
             let offset = p.offset;
             let width = offset_width(offset);
             let bits = offset_bits(offset);
             put4(out, 16, 1, p.pattern as u64, width, bits);
         }
-        OptPoint::Absent => put4(out, 16, 0, 0, 0, 0),
+        None => put4(out, 16, 0, 0, 0, 0),
     }
 }
 
@@ -1002,7 +1006,7 @@ fn put_type(out: &mut [u64], a: Argument)
     put_coding(out, info);
 }
 
-fn put_names(out: &mut [u64], name: OptText, unit: OptText)
+fn put_names(out: &mut [u64], name: Option<Text>, unit: Option<Text>)
     requires { 26 ≤ length out.old }
     ensures { out.new ≡ over out.old 10 (name_numbers name unit) }
 {

@@ -11,11 +11,9 @@ use native.Mathlib.Nat.{sub-zero}
 use Rattle.wire.specs.Answer.Ans.{done, need, hickup}
 use Rattle.wire.specs.Parser.{pick, follow, choose, ◌>>=◌}
 use Rattle.mark.specs.First.{pattern, find}
-use Rattle.mark.specs.declared.Found.{Found}
 use Rattle.headertype.specs.HeaderType.{all_headers}
 use Rattle.filter.specs.declared.Filter.{Filter}
 use Rattle.storage.specs.Storage.{marked, storage}
-use Rattle.storage.specs.declared.OptStored.{OptStored}
 use Rattle.parse.specs.Message.{headers, routed}
 use Rattle.parse.proofs.Nothing.{headers_of_nothing}
 use Rattle.outline.specs.There.{type_at, length_at, headers_at}
@@ -23,13 +21,14 @@ use Rattle.outline.specs.Outline.{tested, outline_from, outline_of}
 use Rattle.outline.specs.declared.Outline.{Outline}
 use Rattle.outline.specs.declared.OutlineAns.{OutlineAns}
 use Rattle.outline.proofs.There.{routed_short, routed_there}
+use Rattle.std.specs.Prelude.{Option, Some, None}
 
 abbrev pub typed : Outline → ℕ
 typed o = o.header_type
 
 -- what stands behind an outline
 pub record Seen (s : List ℕ) (o : Outline) : Type 0 where
-  pub found : find pattern s 0 ≡ Found.At o.place
+  pub found : find pattern s 0 ≡ Some o.place
   pub there : o.place + 42 ≤ length s
   pub type_is : typed o ≡ type_at s (o.place + 16)
   pub length_is : o.length ≡ length_at s (o.place + 16)
@@ -38,13 +37,13 @@ pub record Seen (s : List ℕ) (o : Outline) : Type 0 where
 
 -- and behind a hickup
 pub record Refused (s : List ℕ) (i : ℕ) : Type 0 where
-  pub found : find pattern s 0 ≡ Found.At i
+  pub found : find pattern s 0 ≡ Some i
   pub there : i + 42 ≤ length s
   pub below : length_at s (i + 16) < all_headers (type_at s (i + 16))
 
 -- and behind no pattern
 pub record Missed (s : List ℕ) (n : ℕ) : Type 0 where
-  pub nothing : find pattern s 0 ≡ Found.Nothing
+  pub nothing : find pattern s 0 ≡ None
   pub need_is : n ≡ pick (leb 16 (length s)) 1 0
 
 abbrev Told : List ℕ → OutlineAns → Type 0
@@ -53,7 +52,7 @@ Told s (OutlineAns.Hickup i) = Refused s i
 Told s (OutlineAns.Nowhere n) = Missed s n
 Told s OutlineAns.Unseen = Unit
 
-module _ (s : List ℕ) (i : ℕ) (q : find pattern s 0 ≡ Found.At i) (h : i + 42 ≤ length s) where
+module _ (s : List ℕ) (i : ℕ) (q : find pattern s 0 ≡ Some i) (h : i + 42 ≤ length s) where
   tested_tells : (b c : Bool) → leb (all_headers (type_at s (i + 16))) (length_at s (i + 16)) ≡ b → leb (length_at s (i + 16)) (length s - (i + 16)) ≡ c
       → Told s (pick b (pick c (OutlineAns.Done (record { place = i; header_type = type_at s (i + 16); length = length_at s (i + 16) })) OutlineAns.Unseen) (OutlineAns.Hickup i))
   tested_tells true true e d =
@@ -70,15 +69,15 @@ tells : (s : List ℕ) → Told s (outline_of s)
 unfolding outline_of
 tells s = by (find pattern s 0) refl
   where
-    at : (i : ℕ) (b : Bool) → find pattern s 0 ≡ Found.At i → leb 42 (length s - i) ≡ b → Told s (pick b (tested s i (type_at s (i + 16)) (length_at s (i + 16))) OutlineAns.Unseen)
+    at : (i : ℕ) (b : Bool) → find pattern s 0 ≡ Some i → leb 42 (length s - i) ≡ b → Told s (pick b (tested s i (type_at s (i + 16)) (length_at s (i + 16))) OutlineAns.Unseen)
     at i true q e =
         let l = leb-true 42 (length s - i) e in
         tested_told s i q (omega (arith, l))
     at i false q e = tt
 
-    by : (x : Found) → find pattern s 0 ≡ x → Told s (outline_from s x)
-    by (Found.At i) q = at i (leb 42 (length s - i)) q refl
-    by Found.Nothing q = record { nothing = q; need_is = refl }
+    by : (x : Option ℕ) → find pattern s 0 ≡ x → Told s (outline_from s x)
+    by (Some i) q = at i (leb 42 (length s - i)) q refl
+    by None q = record { nothing = q; need_is = refl }
 
 -- the same of a call's answer, r
 module _ (s : List ℕ) (r : OutlineAns) (e : r ≡ outline_of s) where
@@ -116,6 +115,6 @@ module _ (f : List ℕ) (filter : Filter) (s : List ℕ) where
   unfolding routed choose storage marked ◌>>=◌
   missed_routed n w = rw (w.nothing, w.need_is, sub-zero) (by (leb 16 (length s)))
     where
-      by : (b : Bool) → follow (pick b (done OptStored.Absent (length s)) (need 0)) (λ o. headers f filter o) s ≡ need (pick b 1 0)
-      by true = headers_of_nothing f filter OptStored.Absent s
+      by : (b : Bool) → follow (pick b (done None (length s)) (need 0)) (λ o. headers f filter o) s ≡ need (pick b 1 0)
+      by true = headers_of_nothing f filter None s
       by false = refl

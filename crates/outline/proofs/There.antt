@@ -17,23 +17,22 @@ use Rattle.wire.specs.Run.{range, bytes}
 use Rattle.wire.proofs.Step.{step, then_done, then_hickup, fixed_done, asking_done, ret_is, here_is, refuse_is, choose_true, choose_false}
 use Rattle.strings.specs.Text.{ended_text, text_need, text, identified}
 use Rattle.mark.specs.First.{pattern, find}
-use Rattle.mark.specs.declared.Found.{Found}
 use Rattle.headertype.specs.Bits.{bit, flag, one_if_of}
 use Rattle.headertype.specs.HeaderType.{big_bit_of, text_bit_of, num_bit_of, all_headers, overall_length_of}
 use Rattle.headertype.specs.declared.Endianness.{Endianness}
-use Rattle.headertype.specs.declared.OptNum.{OptNum}
-use Rattle.headertype.specs.declared.OptText.{OptText}
 use Rattle.headertype.specs.declared.StandardHeader.{StandardHeader}
 use Rattle.headertype.proofs.Again.{overall}
 use Rattle.headertype.proofs.Lengths.{one_bit}
 use Rattle.headers.specs.Standard.{maybe_id, maybe_number_of, endian_of, header_of_lem, flagged, standard}
 use Rattle.headers.specs.Extended.{named, extended}
 use Rattle.storage.specs.Storage.{marked, owned, stored, storage}
-use Rattle.storage.specs.declared.OptStored.{OptStored}
 use Rattle.filter.specs.declared.Filter.{Filter}
-use Rattle.filtering.specs.declared.OptExtended.{OptExtended}
 use Rattle.parse.specs.Message.{having_from, seen, maybe_extended_of, headers_of_lem, finished, headers, routed}
 use Rattle.outline.specs.There.{behind, id_if, number_if, type_at, counter_at, length_at, session_place, time_place, extended_place_of, ecu_at, session_at, time_at, standard_at, extended_at, extended_if, stored_at, headers_at}
+use Rattle.std.specs.Prelude.{Option, Some, None}
+use Rattle.storage.specs.declared.Stored.{Stored}
+use Rattle.messageinfo.specs.declared.ExtendedHeader.{ExtendedHeader}
+use Rattle.wire.specs.declared.Text.{Text}
 
 -- ---- fields that are there
 module _ (s : List ℕ) (at : ℕ) where
@@ -58,12 +57,12 @@ module _ (s : List ℕ) (at : ℕ) where
   maybe_id_lem : (t : Bool) → at + 4 ≤ length s → maybe_id t s at ≡ done (id_if t s at) (behind t at)
   unfolding maybe_id choose
   maybe_id_lem true h = step identified _ s at (id_there h) (ret_is _ s (at + 4))
-  maybe_id_lem false h = ret_is OptText.Absent s at
+  maybe_id_lem false h = ret_is None s at
 
   maybe_number_lem : (t : Bool) → at + 4 ≤ length s → maybe_number_of t s at ≡ done (number_if t s at) (behind t at)
   unfolding maybe_number_of choose
   maybe_number_lem true h = step (number true 4) _ s at (number_there true 4 h) (ret_is _ s (at + 4))
-  maybe_number_lem false h = ret_is OptNum.Absent s at
+  maybe_number_lem false h = ret_is None s at
 
 -- at most four bytes further
 behind_is : (t : Bool) (at : ℕ) → behind t at ≡ at + one_if_of t * 4
@@ -76,7 +75,7 @@ behind_most false at = omega arith
 
 -- ---- the standard header
 module _ (s : List ℕ) (at : ℕ) (there : at + 16 ≤ length s) where
-  fields_there : {A : Type 0} (type : ℕ) (k : OptText → OptNum → OptNum → Parser A)
+  fields_there : {A : Type 0} (type : ℕ) (k : Option Text → Option ℕ → Option ℕ → Parser A)
       → (maybe_id (flag 4 type) >>= (λ ecu. maybe_number_of (flag 8 type) >>= (λ session. maybe_number_of (flag 16 type) >>= (λ time. k ecu session time)))) s (at + 4)
       ≡ k (ecu_at type s at) (session_at type s at) (time_at type s at) s (extended_place_of type at)
   fields_there type k =
@@ -128,7 +127,7 @@ module _ (s : List ℕ) (at : ℕ) (there : at + 10 ≤ length s) where
   maybe_extended_lem : (t : Bool) → maybe_extended_of t s at ≡ done (extended_if t s at) (pick t (at + 10) at)
   unfolding maybe_extended_of choose
   maybe_extended_lem true = step extended _ s at extended_there (ret_is _ s (at + 10))
-  maybe_extended_lem false = ret_is OptExtended.Absent s at
+  maybe_extended_lem false = ret_is None s at
 
 -- ---- a header's length is the one that was declared
 big_bit_lem : (t : ℕ) → big_bit_of (endian_of t) ≡ bit 2 t
@@ -171,7 +170,7 @@ headers_end_lem t at =
 abbrev head : List ℕ → ℕ → StandardHeader
 head s at = standard_at (type_at s at) (length_at s at) s at
 
-abbrev ext : List ℕ → ℕ → OptExtended
+abbrev ext : List ℕ → ℕ → Option ExtendedHeader
 ext s at = extended_if (flag 1 (type_at s at)) s (extended_place_of (type_at s at) at)
 
 pub extended_place_lem : (t at : ℕ) → extended_place_of t at ≤ at + 16
@@ -185,7 +184,7 @@ from_there : {A : Type 0} (start n m : ℕ) (f : List ℕ → A) (s : List ℕ) 
 unfolding having_from seen
 from_there start n m f s at e h = rw (e, le-leb n (length s - start) h)
 
-module _ (f : List ℕ) (filter : Filter) (o : OptStored) (s : List ℕ) (at : ℕ) (there : at + 26 ≤ length s) where
+module _ (f : List ℕ) (filter : Filter) (o : Option Stored) (s : List ℕ) (at : ℕ) (there : at + 26 ≤ length s) where
   headers_short : length_at s at < all_headers (type_at s at) → headers f filter o s at ≡ hickup 1
   unfolding headers
   headers_short h = step here _ s at (here_is s at) (then_hickup standard _ s at (standard_short s at (omega arith) h))
@@ -216,12 +215,12 @@ stored_there s i h =
     (rw eight (step _ _ s _ (number_there s (i + 8) false 4 (omega arith))
     (rw twelve (step _ _ s _ (id_there s (i + 12) (omega arith)) (ret_is _ s _ ∙ ap (λ (n : ℕ). done (stored_at s i) n) sixteen))))))
 
-pub storage_there : (s : List ℕ) (i : ℕ) → find pattern s 0 ≡ Found.At i → i + 16 ≤ length s → storage s 0 ≡ done (stored_at s i) (i + 16)
+pub storage_there : (s : List ℕ) (i : ℕ) → find pattern s 0 ≡ Some i → i + 16 ≤ length s → storage s 0 ≡ done (stored_at s i) (i + 16)
 unfolding storage marked
 storage_there s i found h = rw (found, le-leb 16 (length s - 0) (omega arith), sub-zero) (stored_there s i h)
 
 -- ---- the whole
-module _ (f : List ℕ) (filter : Filter) (s : List ℕ) (i : ℕ) (found : find pattern s 0 ≡ Found.At i) (there : i + 42 ≤ length s) where
+module _ (f : List ℕ) (filter : Filter) (s : List ℕ) (i : ℕ) (found : find pattern s 0 ≡ Some i) (there : i + 42 ≤ length s) where
   behind_storage : routed f filter true s 0 ≡ headers f filter (stored_at s i) s (i + 16)
   unfolding routed choose
   behind_storage = then_done storage _ s 0 (storage_there s i found (omega arith))

@@ -10,7 +10,9 @@ use mathlib.Core.List.{List, ◌++◌}
 use lib.ListN.{length}
 use Rattle.wire.specs.Answer.Ans.{done}
 use Rattle.filter.specs.Filter.{filter_of}
-use Rattle.filter.specs.declared.FilterAns.{FilterAns}
+use Rattle.filter.specs.declared.FilterError.{FilterError}
+use Rattle.filter.specs.declared.Filter.{Filter}
+use Rattle.std.specs.Prelude.{Result, Ok, Err}
 use Rattle.parse.specs.Message.{Answer, message, judged, message_of}
 use Rattle.confined.specs.Confined.{confined_message_of, confined_message_of_lem}
 use Rattle.confined.specs.declared.ConfinedMessage.{ConfinedMessage}
@@ -23,18 +25,18 @@ module _ (f : List ℕ) (t : Bool) (s : List ℕ) where
   unfolding confined_message_of_lem message_of judged
   calls_beside = by (filter_of f)
     where
-      by : (v : FilterAns) → BesideCall (judged (λ filter. confined_message_of f filter t s 0) v) (judged (λ filter. message f filter t s 0) v)
-      by (FilterAns.Good filter) = (message f filter t s 0, refl, beside f filter t s)
-      by FilterAns.Retired = refl
-      by FilterAns.Bad = refl
+      by : (v : Result Filter FilterError) → BesideCall (judged (λ filter. confined_message_of f filter t s 0) v) (judged (λ filter. message f filter t s 0) v)
+      by (Ok filter) = (message f filter t s 0, refl, beside f filter t s)
+      by (Err FilterError.Retired) = refl
+      by (Err FilterError.Bad) = refl
 
   pub call_own : (u : List ℕ) (c : ConfinedMessage) (e : ℕ) → confined_message_of_lem f t (s ++ u) ≡ Answer.answered (done c e) → e ≤ length s → confined_message_of_lem f t s ≡ Answer.answered (done c e)
   unfolding confined_message_of_lem judged
   call_own u c e q w = by (filter_of f) q
     where
-      by : (v : FilterAns) → judged (λ filter. confined_message_of f filter t (s ++ u) 0) v ≡ Answer.answered (done c e) → judged (λ filter. confined_message_of f filter t s 0) v ≡ Answer.answered (done c e)
-      by (FilterAns.Good filter) g =
+      by : (v : Result Filter FilterError) → judged (λ filter. confined_message_of f filter t (s ++ u) 0) v ≡ Answer.answered (done c e) → judged (λ filter. confined_message_of f filter t s 0) v ≡ Answer.answered (done c e)
+      by (Ok filter) g =
           let z : confined_message_of f filter t (s ++ u) 0 ≡ done c e = cc in
           ap Answer.answered (value_own f filter t s u c e z w)
-      by FilterAns.Retired g = let z : ◌≡◌ {A = ℕ} 0 1 = cc in absurd (omega arith)
-      by FilterAns.Bad g = let z : ◌≡◌ {A = ℕ} 0 1 = cc in absurd (omega arith)
+      by (Err FilterError.Retired) g = let z : ◌≡◌ {A = ℕ} 0 1 = cc in absurd (omega arith)
+      by (Err FilterError.Bad) g = let z : ◌≡◌ {A = ℕ} 0 1 = cc in absurd (omega arith)

@@ -20,12 +20,10 @@ use Rattle.wire.specs.Run.{bytes}
 use Rattle.wire.proofs.Step.{ends, then_done}
 use Rattle.strings.specs.Text.{identified}
 use Rattle.mark.specs.First.{pattern, find}
-use Rattle.mark.specs.declared.Found.{Found}
 use Rattle.mark.proofs.Laws.{found_from, found_within, find_stable, none_skips}
 use Rattle.headertype.specs.HeaderType.{overall_length_of}
 use Rattle.headers.proofs.Inverse.{split, same_value, no_need, of_ret, of_number, of_bytes, of_id}
 use Rattle.storage.specs.Storage.{from_mark, marked, stored_of, owned, stored, storage}
-use Rattle.storage.specs.declared.OptStored.{OptStored}
 use Rattle.storage.proofs.Laws.{marked_law}
 use Rattle.filter.specs.declared.Filter.{Filter}
 use Rattle.filtering.proofs.Stable.{filtered_same}
@@ -38,8 +36,10 @@ use Rattle.worth.proofs.Ends.{parts, opening_ends, ecu_in, ids_in_lem}
 use Rattle.owned.specs.Thrifty.{Thrifty, Both}
 use Rattle.owned.proofs.Thrifty.{then_both, choose_both, own_of}
 use Rattle.owned.proofs.Rules.{behind_both, stored_both}
+use Rattle.std.specs.Prelude.{Option, Some, None}
+use Rattle.storage.specs.declared.Stored.{Stored}
 
-same_place : {i j : ℕ} → Found.At i ≡ Found.At j → i ≡ j
+same_place : {i j : ℕ} → Some i ≡ Some j → i ≡ j
 same_place e = cc
 
 -- ---- a mark that leads at least n bytes, and a rule behind them
@@ -52,16 +52,16 @@ module _ {A B : Type 0} (mark : List ℕ) (some : 0 < length mark) (n : ℕ) (sh
   -- a value stands behind a mark
   record Led (s : List ℕ) (at : ℕ) (c : B) (b : ℕ) : Type 0 where
     place : ℕ
-    found : find mark s at ≡ Found.At place
+    found : find mark s at ≡ Some place
     read : (lead (place - at) >>= k) s place ≡ done c b
 
   led : (s : List ℕ) (at : ℕ) {c : B} {b : ℕ} → (marked mark n lead none >>= k) s at ≡ done c b → Led s at c b
   unfolding marked ◌>>=◌
   led s at {c} {b} e = by (leb n (length s - at)) (find mark s at) refl e
     where
-      by : (t : Bool) (x : Found) → find mark s at ≡ x → follow (pick t (from_mark lead none s at x) (need 0)) k s ≡ done c b → Led s at c b
-      by true (Found.At i) q g = record { place = i; found = q; read = g }
-      by true Found.Nothing q g = no_need (sym (none-needs s) ∙ g)
+      by : (t : Bool) (x : Option ℕ) → find mark s at ≡ x → follow (pick t (from_mark lead none s at x) (need 0)) k s ≡ done c b → Led s at c b
+      by true (Some i) q g = record { place = i; found = q; read = g }
+      by true None q g = no_need (sym (none-needs s) ∙ g)
       by false x q g = no_need g
 
   -- and takes its n bytes
@@ -79,12 +79,12 @@ module _ {A B : Type 0} (mark : List ℕ) (some : 0 < length mark) (n : ℕ) (sh
       l : Led (s ++ t) at c b
       l = led (s ++ t) at g
 
-      by : (x : Bool) → leb n (length s - at) ≡ x → (o : Found) → find mark s at ≡ o → follow (pick x (from_mark lead none s at o) (need 0)) k s ≡ need m → length s < b
+      by : (x : Bool) → leb n (length s - at) ≡ x → (o : Option ℕ) → find mark s at ≡ o → follow (pick x (from_mark lead none s at o) (need 0)) k s ≡ need m → length s < b
       by false q o z f = omega (arith, leb-false n (length s - at) q, past (s ++ t) at l, found_from mark (s ++ t) at l.place some l.found)
-      by true q (Found.At i) z f =
+      by true q (Some i) z f =
           let same : l.place ≡ i = same_place (sym l.found ∙ find_stable mark s t at i some z) in
           (led_both (i - at)).thrifty s t i c b m (omega (arith, found_within mark s at i some z)) f (rw same at l.read)
-      by true q Found.Nothing z f =
+      by true q None z f =
           let skips = none_skips mark s t at some h z in
           let from = found_from mark (s ++ t) _ l.place some (sym skips ∙ l.found) in
           omega (arith, from, past (s ++ t) at l)
@@ -93,7 +93,7 @@ module _ {A B : Type 0} (mark : List ℕ) (some : 0 < length mark) (n : ℕ) (sh
   marked_both = record { lawful = marked_law mark some n lead none k (λ i. (hl i).lawful) (λ a. (hk a).lawful) none-needs; thrifty = marked_thrifty }
 
 -- ---- the storage header has 16 bytes
-stored_long : (skipped : ℕ) (s : List ℕ) (at : ℕ) (o : OptStored) (n : ℕ) → stored skipped s at ≡ done o n → at + 16 ≤ n
+stored_long : (skipped : ℕ) (s : List ℕ) (at : ℕ) (o : Option Stored) (n : ℕ) → stored skipped s at ≡ done o n → at + 16 ≤ n
 unfolding stored owned
 stored_long skipped s at o n e =
     let r1 = split (bytes 4) _ s at e in
@@ -107,8 +107,8 @@ pub opening_both : (t : Bool) → Both (opening t)
 unfolding opening storage
 opening_both t =
     choose_both t _ _
-    (marked_both pattern (lit< tt) 16 (omega arith) stored OptStored.Absent opening_behind stored_both behind_both behind_nothing stored_long)
-    (behind_both OptStored.Absent)
+    (marked_both pattern (lit< tt) 16 (omega arith) stored None opening_behind stored_both behind_both behind_nothing stored_long)
+    (behind_both None)
 
 pub opening_own : (t : Bool) (s u : List ℕ) (l : Opening) (n : ℕ) → opening t (s ++ u) 0 ≡ done l n → n ≤ length s → opening t s 0 ≡ done l n
 opening_own t s u l n e h = own_of (opening t) (opening_both t) s u 0 l n zero-le e h

@@ -5,25 +5,26 @@ use Rattle.wire.specs.Parser.{ret, refuse}
 use Rattle.headers.specs.Standard.{maybe_id, maybe_number_of, flagged, standard}
 use Rattle.headers.specs.Extended.{named, extended}
 use Rattle.storage.specs.Storage.{owned, stored}
-use Rattle.dlt.specs.declared.Decoded.{Decoded}
-use Rattle.dlt.specs.declared.FloatWidth.{FloatWidth}
+use Rattle.std.specs.Prelude.{Result, Ok, Err, Option}
+use Rattle.dlt.specs.declared.NoTypeInfo.{NoTypeInfo}
 use Rattle.dlt.specs.declared.TypeInfo.{TypeInfo}
+use Rattle.dlt.specs.declared.FloatWidth.{FloatWidth}
 use Rattle.dlt.specs.declared.TypeInfoKind.{TypeInfoKind}
 use Rattle.values.specs.Value.{uint, sint, fint, value, offset, fixed_point_of}
 use Rattle.values.specs.declared.Numeric.{Numeric}
 use Rattle.names.specs.Names.{name, maybe_name, texts, name_and_unit_of, maybe_names}
 use Rattle.arguments.specs.Argument.{decoded, type_info_of, plain, scaled, boolean, content, sized, kinded, argument}
 use Rattle.cursor.specs.Cursor.{arguments}
-use Rattle.filtering.specs.declared.OptExtended.{OptExtended}
 use Rattle.payload.specs.Payload as pay
 use Rattle.payload.specs.Payload.{payload}
-use Rattle.storage.specs.declared.OptStored.{OptStored}
 use Rattle.parse.specs.Message.{maybe_extended_of, passed, item, body}
 use Rattle.parse.specs.declared.Headers.{Headers}
 use Rattle.worth.specs.Opening.{opening_behind}
 use Rattle.confined.specs.Confined.{inside}
 use Rattle.owned.specs.Thrifty.{Both}
 use Rattle.owned.proofs.Thrifty.{ret_both, refuse_both, numeric_both, thrift}
+use Rattle.storage.specs.declared.Stored.{Stored}
+use Rattle.messageinfo.specs.declared.ExtendedHeader.{ExtendedHeader}
 
 -- ---- the headers
 maybe_id_both : (t : Bool) → Both (maybe_id t)
@@ -54,7 +55,7 @@ pub maybe_extended_both : (t : Bool) → Both (maybe_extended_of t)
 unfolding maybe_extended_of
 maybe_extended_both t = search (thrift, extended_both) depth 20
 
-pub behind_both : (o : OptStored) → Both (opening_behind o)
+pub behind_both : (o : Option Stored) → Both (opening_behind o)
 unfolding opening_behind
 behind_both o = search (thrift, standard_both, maybe_extended_both) depth 20
 
@@ -101,10 +102,10 @@ names_both : (info big : Bool) → Both (maybe_names info big)
 unfolding maybe_names
 names_both info big = search (thrift, name_and_unit_both) depth 20
 
-decoded_both : (d : Decoded) → Both (decoded d)
+decoded_both : (d : Result TypeInfo NoTypeInfo) → Both (decoded d)
 unfolding decoded ret refuse
-decoded_both (Decoded.Accepted i) = ret_both i
-decoded_both Decoded.Refused = refuse_both 2
+decoded_both (Ok i) = ret_both i
+decoded_both (Err r) = refuse_both 2
 
 type_info_both : (big : Bool) → Both (type_info_of big)
 unfolding type_info_of
@@ -153,7 +154,7 @@ run_both : (big : Bool) (n : ℕ) → Both (pay.plain big n)
 unfolding pay.plain
 run_both big n = search thrift depth 20
 
-pub payload_both : (big : Bool) (e : OptExtended) (n : ℕ) → Both (payload big e n)
+pub payload_both : (big : Bool) (e : Option ExtendedHeader) (n : ℕ) → Both (payload big e n)
 unfolding payload
 payload_both big e n = search (thrift, verbose_both, control_both, run_both) depth 20
 

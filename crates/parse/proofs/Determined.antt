@@ -1,57 +1,32 @@
--- Each contract fixes the answer.
-use Prim.Native.Nat.{ℕ}
+-- Each contract fixes the answer (wire's Determined.antt): two results of a call that stand for one answer are the same result.
 use mathlib.Core.Path.{◌≡◌, refl, sym, ap, ◌∙◌}
-use Rattle.wire.specs.Answer.{Ans}
+use Rattle.std.specs.Prelude.{Result, Ok, Err}
 use Rattle.wire.specs.Answer.Ans.{done, need, hickup, broken}
-use Rattle.wire.proofs.Determined.{one_answer, back}
-use Rattle.payload.proofs.Determined.{whole, whole_answer}
-use Rattle.parse.specs.Message.{Answer, headers_ans, parsed_ans, message_ans}
+use Rattle.wire.specs.declared.Got.{Got}
+use Rattle.wire.proofs.Determined.{reason_of, reason_back}
+use Rattle.parse.specs.Message.{Answer}
 use Rattle.parse.specs.Message.Answer.{bad_filter, retired_tag, answered}
-use Rattle.parse.specs.declared.Headers.{Headers}
-use Rattle.parse.specs.declared.ParsedMessage.{ParsedMessage}
-use Rattle.parse.specs.declared.HeadersAns.{HeadersAns}
-use Rattle.parse.specs.declared.ParsedAns.{ParsedAns}
-use Rattle.parse.specs.declared.MessageAns.{MessageAns}
+use Rattle.parse.specs.Refusal.{refusal_ans}
+use Rattle.parse.specs.declared.Refusal.{Refusal}
 
-headers_back : (r : HeadersAns) → back (λ a b. HeadersAns.Done (record { v = a; next = b })) HeadersAns.Need HeadersAns.Hickup (headers_ans r) ≡ r
-headers_back (HeadersAns.Done g) = refl
-headers_back (HeadersAns.Need n) = refl
-headers_back (HeadersAns.Hickup n) = refl
+module _ {A : Type 0} where
+  -- a result, had back from the answer
+  abbrev refused : Answer A → Result (Got A) Refusal
+  refused bad_filter = Err Refusal.BadFilter
+  refused retired_tag = Err Refusal.RetiredTag
+  refused (answered (done a e)) = Ok (record { v = a; next = e })
+  refused (answered (need m)) = Err (Refusal.Need m)
+  refused (answered (hickup r)) = Err (Refusal.Hickup (reason_of r))
+  refused (answered broken) = Err Refusal.Broken
 
-pub headers_determined : {r r' : HeadersAns} {x : Ans Headers} → headers_ans r ≡ x → headers_ans r' ≡ x → r ≡ r'
-headers_determined = one_answer headers_ans (λ a b. HeadersAns.Done (record { v = a; next = b })) HeadersAns.Need HeadersAns.Hickup headers_back
+  refusal_back : (r : Result (Got A) Refusal) → refused (refusal_ans r) ≡ r
+  refusal_back (Ok g) = refl
+  refusal_back (Err Refusal.BadFilter) = refl
+  refusal_back (Err Refusal.RetiredTag) = refl
+  refusal_back (Err (Refusal.Need n)) = refl
+  refusal_back (Err (Refusal.Hickup r)) = ap (λ q. Err (Refusal.Hickup q)) (reason_back r)
+  refusal_back (Err Refusal.Broken) = refl
 
-parsed_back : (r : ParsedAns) → whole (λ a b. ParsedAns.Done (record { v = a; next = b })) ParsedAns.Need ParsedAns.Hickup ParsedAns.Broken (parsed_ans r) ≡ r
-parsed_back (ParsedAns.Done g) = refl
-parsed_back (ParsedAns.Need n) = refl
-parsed_back (ParsedAns.Hickup n) = refl
-parsed_back ParsedAns.Broken = refl
-
-pub parsed_determined : {r r' : ParsedAns} {x : Ans ParsedMessage} → parsed_ans r ≡ x → parsed_ans r' ≡ x → r ≡ r'
-parsed_determined = whole_answer parsed_ans (λ a b. ParsedAns.Done (record { v = a; next = b })) ParsedAns.Need ParsedAns.Hickup ParsedAns.Broken parsed_back
-
--- an enum with a case for each answer, told by the answer; so that two of its values with one answer are one
-abbrev pub judged_back : {A R : Type 0} → R → R → (A → ℕ → R) → (ℕ → R) → (ℕ → R) → R → Answer A → R
-judged_back bad old d n h b bad_filter = bad
-judged_back bad old d n h b retired_tag = old
-judged_back bad old d n h b (answered (done a e)) = d a e
-judged_back bad old d n h b (answered (need m)) = n m
-judged_back bad old d n h b (answered (hickup r)) = h r
-judged_back bad old d n h b (answered broken) = b
-
-pub judged_once : {A R : Type 0} (ans : R → Answer A) (back : Answer A → R) → ((r : R) → back (ans r) ≡ r) → {r r' : R} {x : Answer A} → ans r ≡ x → ans r' ≡ x → r ≡ r'
-judged_once ans back again {r} {r'} e f = sym (again r) ∙ ap back (e ∙ sym f) ∙ again r'
-
-abbrev to_message : Answer ParsedMessage → MessageAns
-to_message = judged_back MessageAns.BadFilter MessageAns.RetiredTag (λ a b. MessageAns.Done (record { v = a; next = b })) MessageAns.Need MessageAns.Hickup MessageAns.Broken
-
-message_back : (r : MessageAns) → to_message (message_ans r) ≡ r
-message_back MessageAns.BadFilter = refl
-message_back MessageAns.RetiredTag = refl
-message_back (MessageAns.Done g) = refl
-message_back (MessageAns.Need n) = refl
-message_back (MessageAns.Hickup n) = refl
-message_back MessageAns.Broken = refl
-
-pub message_determined : {r r' : MessageAns} {x : Answer ParsedMessage} → message_ans r ≡ x → message_ans r' ≡ x → r ≡ r'
-message_determined = judged_once message_ans to_message message_back
+  -- of every call that is given a filter's bytes
+  pub refusal_determined : {r r' : Result (Got A) Refusal} {x : Answer A} → refusal_ans r ≡ x → refusal_ans r' ≡ x → r ≡ r'
+  refusal_determined {r} {r'} e f = sym (refusal_back r) ∙ ap refused (e ∙ sym f) ∙ refusal_back r'

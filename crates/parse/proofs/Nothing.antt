@@ -9,9 +9,10 @@ use Rattle.wire.specs.Parser.{here, lacking}
 use Rattle.wire.specs.Number.{number}
 use Rattle.wire.proofs.Step.{then_done, then_need, fixed_need, here_is}
 use Rattle.headers.specs.Standard.{standard}
-use Rattle.storage.specs.declared.OptStored.{OptStored}
 use Rattle.filter.specs.declared.Filter.{Filter}
 use Rattle.parse.specs.Message.{headers}
+use Rattle.std.specs.Prelude.{Option}
+use Rattle.storage.specs.declared.Stored.{Stored}
 
 pub standard_of_nothing : (s : List ℕ) (at : ℕ) → length s ≤ at → standard s at ≡ need 1
 unfolding standard number
@@ -19,7 +20,7 @@ standard_of_nothing s at h =
     let z : lacking 1 s at ≡ 1 = omega arith in
     then_need _ _ s at (fixed_need 1 _ s at (omega arith)) ∙ ap need z
 
-pub headers_of_nothing : (f : List ℕ) (filter : Filter) (stored : OptStored) (s : List ℕ) → headers f filter stored s (length s) ≡ need 1
+pub headers_of_nothing : (f : List ℕ) (filter : Filter) (stored : Option Stored) (s : List ℕ) → headers f filter stored s (length s) ≡ need 1
 unfolding headers
 headers_of_nothing f filter stored s =
     then_done here _ s (length s) (here_is s (length s)) ∙ then_need standard _ s (length s) (standard_of_nothing s (length s) (omega arith))

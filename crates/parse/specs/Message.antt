@@ -1,8 +1,8 @@
 -- Document 01, "One message, step by step".
-use Rattle.std.specs.Prelude.{ℕ, ◌-◌, Bool, true, false, List, length, leb}
+use Rattle.std.specs.Prelude.{ℕ, ◌-◌, Bool, true, false, List, length, leb, Result, Ok, Err, Option, Some, None}
 use Rattle.wire.specs.Answer.{Ans, Parser, Numbered, numbered}
 use Rattle.wire.specs.Answer as wire
-use Rattle.wire.specs.Answer.Ans.{done, need, hickup, broken}
+use Rattle.wire.specs.Answer.Ans.{done, need}
 use Rattle.wire.specs.Parser.{pick, ret, here, choose, lacking, ◌>>=◌}
 use Rattle.wire.specs.Run.{bytes}
 use Rattle.headertype.specs.HeaderType.{overall_length_of}
@@ -11,20 +11,16 @@ use Rattle.headertype.specs.declared.StandardHeader.{StandardHeader}
 use Rattle.headers.specs.Standard.{standard}
 use Rattle.headers.specs.Extended.{extended}
 use Rattle.storage.specs.Storage.{storage}
-use Rattle.storage.specs.declared.OptStored.{OptStored}
 use Rattle.filter.specs.Filter.{filter_of}
 use Rattle.filter.specs.declared.Filter.{Filter}
-use Rattle.filter.specs.declared.FilterAns.{FilterAns}
+use Rattle.filter.specs.declared.FilterError.{FilterError}
 use Rattle.filtering.specs.FilteredOut.{filtered_out_of}
-use Rattle.filtering.specs.declared.OptExtended.{OptExtended}
 use Rattle.payload.specs.Payload.{payload}
 use Rattle.payload.specs.declared.PayloadContent.{PayloadContent}
 use Rattle.parse.specs.declared.Headers.{Headers}
 use Rattle.parse.specs.declared.ParsedMessage.{ParsedMessage}
-use Rattle.parse.specs.declared.OptExtendedAns.{OptExtendedAns}
-use Rattle.parse.specs.declared.HeadersAns.{HeadersAns}
-use Rattle.parse.specs.declared.ParsedAns.{ParsedAns}
-use Rattle.parse.specs.declared.MessageAns.{MessageAns}
+use Rattle.storage.specs.declared.Stored.{Stored}
+use Rattle.messageinfo.specs.declared.ExtendedHeader.{ExtendedHeader}
 
 -- p, once n bytes stand at an earlier position; the need is their shortfall there
 unfoldable pub having_from : {A : Type 0} → ℕ → ℕ → Parser A → Parser A
@@ -35,11 +31,11 @@ unfoldable pub seen : {A : Type 0} → (List ℕ → A) → Parser A
 seen f s at = done (f s) at
 
 -- step 4: the extended header, if flagged
-unfoldable pub maybe_extended_of : Bool → Parser OptExtended
-maybe_extended_of t = choose t (extended >>= (λ x. ret (OptExtended.Present x))) (ret OptExtended.Absent)
+unfoldable pub maybe_extended_of : Bool → Parser (Option ExtendedHeader)
+maybe_extended_of t = choose t (extended >>= (λ x. ret (Some x))) (ret None)
 
 -- step 6: what the headers are, and whether the filter, read from the bytes f, drops the message
-unfoldable pub headers_of_lem : List ℕ → Filter → OptStored → StandardHeader → OptExtended → List ℕ → Headers
+unfoldable pub headers_of_lem : List ℕ → Filter → Option Stored → StandardHeader → Option ExtendedHeader → List ℕ → Headers
 headers_of_lem f filter stored h e s = record {
   storage_header = stored;
   header = h;
@@ -48,13 +44,13 @@ headers_of_lem f filter stored h e s = record {
 }
 
 -- step 5: fewer bytes than the declared length behind the storage header; given only after the extended header is read
-unfoldable pub finished : List ℕ → Filter → OptStored → ℕ → StandardHeader → Parser Headers
+unfoldable pub finished : List ℕ → Filter → Option Stored → ℕ → StandardHeader → Parser Headers
 finished f filter stored start h = do
   e ← maybe_extended_of h.has_extended_header
   having_from start (overall_length_of h) (seen (headers_of_lem f filter stored h e))
 
 -- steps 3 to 6, behind the storage header
-unfoldable pub headers : List ℕ → Filter → OptStored → Parser Headers
+unfoldable pub headers : List ℕ → Filter → Option Stored → Parser Headers
 headers f filter stored = do
   start ← here
   h ← standard
@@ -62,7 +58,7 @@ headers f filter stored = do
 
 -- steps 2 to 6
 unfoldable pub routed : List ℕ → Filter → Bool → Parser Headers
-routed f filter stored = choose stored (storage >>= (λ o. headers f filter o)) (headers f filter OptStored.Absent)
+routed f filter stored = choose stored (storage >>= (λ o. headers f filter o)) (headers f filter None)
 
 unfoldable pub is_big_of : Endianness → Bool
 is_big_of Endianness.Little = false
@@ -90,32 +86,16 @@ body h = choose h.filtered (passed h.header.payload_length) (item h)
 unfoldable pub message : List ℕ → Filter → Bool → Parser ParsedMessage
 message f filter stored = routed f filter stored >>= body
 
--- the answers that the enums stand for
-abbrev pub opt_extended_ans : OptExtendedAns → Ans OptExtended
-opt_extended_ans (OptExtendedAns.Done g) = done g.v g.next
-opt_extended_ans (OptExtendedAns.Need n) = need n
-
-abbrev pub headers_ans : HeadersAns → Ans Headers
-headers_ans (HeadersAns.Done g) = done g.v g.next
-headers_ans (HeadersAns.Need n) = need n
-headers_ans (HeadersAns.Hickup r) = hickup r
-
-abbrev pub parsed_ans : ParsedAns → Ans ParsedMessage
-parsed_ans (ParsedAns.Done g) = done g.v g.next
-parsed_ans (ParsedAns.Need n) = need n
-parsed_ans (ParsedAns.Hickup r) = hickup r
-parsed_ans ParsedAns.Broken = broken
-
 -- step 1 comes before anything else: BadFilter, RetiredTag, or what a rule answers with a good filter
 pub data Answer (A : Type 0) : Type 0 where
   bad_filter : Answer A
   retired_tag : Answer A
   answered : Ans A → Answer A
 
-unfoldable pub judged : {A : Type 0} → (Filter → Ans A) → FilterAns → Answer A
-judged rule (FilterAns.Good filter) = Answer.answered (rule filter)
-judged rule FilterAns.Retired = Answer.retired_tag
-judged rule FilterAns.Bad = Answer.bad_filter
+unfoldable pub judged : {A : Type 0} → (Filter → Ans A) → Result Filter FilterError → Answer A
+judged rule (Ok filter) = Answer.answered (rule filter)
+judged rule (Err FilterError.Retired) = Answer.retired_tag
+judged rule (Err FilterError.Bad) = Answer.bad_filter
 
 unfoldable pub message_of : List ℕ → Bool → List ℕ → Answer ParsedMessage
 message_of f stored s = judged (λ filter. message f filter stored s 0) (filter_of f)
@@ -125,12 +105,3 @@ abbrev pub numbered_answer : {A : Type 0} → Answer A → Numbered A
 numbered_answer Answer.bad_filter = wire.bad_filter
 numbered_answer Answer.retired_tag = wire.retired_tag
 numbered_answer (Answer.answered x) = numbered x
-
--- the answer that each case of the enum stands for
-abbrev pub message_ans : MessageAns → Answer ParsedMessage
-message_ans MessageAns.BadFilter = Answer.bad_filter
-message_ans MessageAns.RetiredTag = Answer.retired_tag
-message_ans (MessageAns.Done g) = Answer.answered (done g.v g.next)
-message_ans (MessageAns.Need n) = Answer.answered (need n)
-message_ans (MessageAns.Hickup r) = Answer.answered (hickup r)
-message_ans MessageAns.Broken = Answer.answered broken

@@ -4,8 +4,9 @@ use mathlib.Core.Bool.{Bool}
 use Rattle.wire.specs.Lawful.{Lawful}
 use Rattle.wire.proofs.Rules.{laws}
 use Rattle.cursor.proofs.Laws.{arguments_law}
-use Rattle.filtering.specs.declared.OptExtended.{OptExtended}
 use Rattle.payload.specs.Payload.{verbose, control, plain, payload}
+use Rattle.std.specs.Prelude.{Option}
+use Rattle.messageinfo.specs.declared.ExtendedHeader.{ExtendedHeader}
 
 verbose_law : (big : Bool) (n : ℕ) (network : Bool) → Lawful (verbose big n network)
 unfolding verbose
@@ -19,6 +20,6 @@ plain_law : (big : Bool) (n : ℕ) → Lawful (plain big n)
 unfolding plain
 plain_law big n = search laws depth 20
 
-pub payload_law : (big : Bool) (e : OptExtended) (n : ℕ) → Lawful (payload big e n)
+pub payload_law : (big : Bool) (e : Option ExtendedHeader) (n : ℕ) → Lawful (payload big e n)
 unfolding payload
 payload_law big e n = search (laws, verbose_law, control_law, plain_law) depth 20

@@ -1,50 +1,23 @@
--- The lemmas of the payload's rules and answer enums, for `search` (wire's Reading.antt says how).
+-- The lemmas of the payload's rules, for `search` (wire's Reading.antt says how).
 use Prim.Native.Nat.{ℕ}
-use mathlib.Core.Path.{◌≡◌, refl, ap}
+use mathlib.Core.Path.{◌≡◌, ap}
 use mathlib.Core.Bool.{Bool, true, false}
 use mathlib.Core.List.{List}
-use Rattle.wire.specs.Answer.{Ans, Parser}
-use Rattle.wire.specs.Answer.Ans.{need, hickup, broken}
-use Rattle.wire.specs.Parser.{◌>>=◌}
+use Rattle.wire.specs.Answer.{Ans}
 use Rattle.wire.specs.declared.Range.{Range}
-use Rattle.wire.proofs.Reading.{by_done, by_need, by_hickup, by_broken, reading}
+use Rattle.wire.proofs.Reading.{reading}
 use Rattle.messageinfo.specs.MessageInfo.{control_of}
 use Rattle.messageinfo.specs.declared.ControlType.{ControlType}
 use Rattle.messageinfo.specs.declared.MessageType.{MessageType}
-use Rattle.cursor.specs.Cursor.{pass_ans, cursor}
+use Rattle.cursor.specs.Cursor.{cursor}
 use Rattle.cursor.specs.Raw.{raw_cursor}
-use Rattle.cursor.specs.declared.PassAns.{PassAns}
-use Rattle.filtering.specs.declared.OptExtended.{OptExtended}
-use Rattle.payload.specs.Payload.{is_verbose_of, count_of, control_type_of, network_type_of, is_control_of, is_network_of, list_of, verbose, payload_ans}
+use Rattle.payload.specs.Payload.{is_verbose_of, count_of, control_type_of, network_type_of, is_control_of, is_network_of, list_of, verbose}
 use Rattle.payload.specs.declared.PayloadContent.{PayloadContent}
-use Rattle.payload.specs.declared.GotPayload.{GotPayload}
-use Rattle.payload.specs.declared.PayloadAns.{PayloadAns}
-
-module _ {B : Type 0} (p : Parser Unit) (k : Unit → Parser B) (s : List ℕ) (at : ℕ) where
-  pub step_pass : (r : PassAns) (b : ℕ) (x : Ans B) → pass_ans r ≡ p s at → r ≡ PassAns.Done b → x ≡ k tt s b → x ≡ (p >>= k) s at
-  step_pass r b x e q f = by_done pass_ans p k s at e q refl f
-
-  pub need_pass : (r : PassAns) (n : ℕ) → pass_ans r ≡ p s at → r ≡ PassAns.Need n → need n ≡ (p >>= k) s at
-  need_pass r n e q = by_need pass_ans p k s at e q refl
-
-  pub hickup_pass : (r : PassAns) (n : ℕ) → pass_ans r ≡ p s at → r ≡ PassAns.Hickup n → hickup n ≡ (p >>= k) s at
-  hickup_pass r n e q = by_hickup pass_ans p k s at e q refl
-
-module _ {B : Type 0} (p : Parser PayloadContent) (k : PayloadContent → Parser B) (s : List ℕ) (at : ℕ) where
-  pub step_payload : (r : PayloadAns) (g : GotPayload) (x : Ans B) → payload_ans r ≡ p s at → r ≡ PayloadAns.Done g → x ≡ k g.v s g.next → x ≡ (p >>= k) s at
-  step_payload r g x e q f = by_done payload_ans p k s at e q refl f
-
-  pub need_payload : (r : PayloadAns) (n : ℕ) → payload_ans r ≡ p s at → r ≡ PayloadAns.Need n → need n ≡ (p >>= k) s at
-  need_payload r n e q = by_need payload_ans p k s at e q refl
-
-  pub hickup_payload : (r : PayloadAns) (n : ℕ) → payload_ans r ≡ p s at → r ≡ PayloadAns.Hickup n → hickup n ≡ (p >>= k) s at
-  hickup_payload r n e q = by_hickup payload_ans p k s at e q refl
-
-  pub broken_payload : (r : PayloadAns) → payload_ans r ≡ p s at → r ≡ PayloadAns.Broken → broken ≡ (p >>= k) s at
-  broken_payload r e q = by_broken payload_ans p k s at e q refl
+use Rattle.std.specs.Prelude.{Option}
+use Rattle.messageinfo.specs.declared.ExtendedHeader.{ExtendedHeader}
 
 -- ---- the variant that was matched, e', for the enum's value e
-module _ (e e' : OptExtended) (q : e ≡ e') where
+module _ (e e' : Option ExtendedHeader) (q : e ≡ e') where
   pub verbose_at : (x : Bool) → x ≡ is_verbose_of e' → x ≡ is_verbose_of e
   verbose_at x h = rw q h
 
@@ -77,10 +50,10 @@ module _ (b : Bool) (at left : ℕ) (big : Bool) where
 pub control_made : (n : ℕ) (k : ControlType) (r : Range) → k ≡ control_of n → PayloadContent.ControlMsg k r ≡ PayloadContent.ControlMsg (control_of n) r
 control_made n k r e = ap (λ (j : ControlType). PayloadContent.ControlMsg j r) e
 
-pub verbose_of : (big : Bool) (e : OptExtended) (n : ℕ) (b : Bool) (s : List ℕ) (at : ℕ) (x : Ans PayloadContent) → n ≡ count_of e → b ≡ is_network_of e
+pub verbose_of : (big : Bool) (e : Option ExtendedHeader) (n : ℕ) (b : Bool) (s : List ℕ) (at : ℕ) (x : Ans PayloadContent) → n ≡ count_of e → b ≡ is_network_of e
     → x ≡ verbose big n b s at → x ≡ verbose big (count_of e) (is_network_of e) s at
 verbose_of big e n b s at x d f h = rw (← d, ← f) h
 
 pub ruleset tables = (verbose_at, count_at, control_at, network_at, control_type_at, network_type_at, list_network, list_verbose)
 
-pub ruleset payload-reading = (reading, step_pass, need_pass, hickup_pass, step_payload, need_payload, hickup_payload, broken_payload, control_made, verbose_of)
+pub ruleset payload-reading = (reading, control_made, verbose_of)

@@ -1,7 +1,6 @@
 -- Document 01, step 7: the payload.
-use Rattle.std.specs.Prelude.{ℕ, ◌-◌, Bool, true, false, leb}
-use Rattle.wire.specs.Answer.{Ans, Parser}
-use Rattle.wire.specs.Answer.Ans.{done, need, hickup, broken}
+use Rattle.std.specs.Prelude.{ℕ, ◌-◌, Bool, true, false, leb, Option, Some, None}
+use Rattle.wire.specs.Answer.{Parser}
 use Rattle.wire.specs.Parser.{pick, ret, fail, here, choose, ◌>>=◌}
 use Rattle.wire.specs.Number.{number}
 use Rattle.wire.specs.Run.{bytes}
@@ -9,18 +8,17 @@ use Rattle.messageinfo.specs.MessageInfo.{control_of}
 use Rattle.messageinfo.specs.declared.MessageType.{MessageType}
 use Rattle.cursor.specs.Cursor.{arguments, cursor}
 use Rattle.cursor.specs.Raw.{raw_cursor}
-use Rattle.filtering.specs.declared.OptExtended.{OptExtended}
 use Rattle.payload.specs.declared.PayloadContent.{PayloadContent}
-use Rattle.payload.specs.declared.PayloadAns.{PayloadAns}
+use Rattle.messageinfo.specs.declared.ExtendedHeader.{ExtendedHeader}
 
 -- what the extended header says of the payload; without one it is not verbose and of no type
-unfoldable pub is_verbose_of : OptExtended → Bool
-is_verbose_of (OptExtended.Present x) = x.verbose
-is_verbose_of OptExtended.Absent = false
+unfoldable pub is_verbose_of : Option ExtendedHeader → Bool
+is_verbose_of (Some x) = x.verbose
+is_verbose_of None = false
 
-unfoldable pub count_of : OptExtended → ℕ
-count_of (OptExtended.Present x) = x.argument_count
-count_of OptExtended.Absent = 0
+unfoldable pub count_of : Option ExtendedHeader → ℕ
+count_of (Some x) = x.argument_count
+count_of None = 0
 
 unfoldable pub control_type_of : MessageType → Bool
 control_type_of (MessageType.Log l) = false
@@ -36,13 +34,13 @@ network_type_of (MessageType.NetworkTrace t) = true
 network_type_of (MessageType.Control t) = false
 network_type_of (MessageType.Unknown t n) = false
 
-unfoldable pub is_control_of : OptExtended → Bool
-is_control_of (OptExtended.Present x) = control_type_of x.message_type
-is_control_of OptExtended.Absent = false
+unfoldable pub is_control_of : Option ExtendedHeader → Bool
+is_control_of (Some x) = control_type_of x.message_type
+is_control_of None = false
 
-unfoldable pub is_network_of : OptExtended → Bool
-is_network_of (OptExtended.Present x) = network_type_of x.message_type
-is_network_of OptExtended.Absent = false
+unfoldable pub is_network_of : Option ExtendedHeader → Bool
+is_network_of (Some x) = network_type_of x.message_type
+is_network_of None = false
 
 -- the arguments as a cursor; of a network trace only raw values are kept
 unfoldable pub list_of : Bool → ℕ → ℕ → Bool → PayloadContent
@@ -69,11 +67,5 @@ plain big n = choose (leb 4 n) (do
   rest ← bytes (n - 4)
   ret (PayloadContent.NonVerbose id rest)) fail
 
-unfoldable pub payload : Bool → OptExtended → ℕ → Parser PayloadContent
+unfoldable pub payload : Bool → Option ExtendedHeader → ℕ → Parser PayloadContent
 payload big e n = choose (is_verbose_of e) (verbose big (count_of e) (is_network_of e)) (choose (is_control_of e) (control n) (plain big n))
-
-abbrev pub payload_ans : PayloadAns → Ans PayloadContent
-payload_ans (PayloadAns.Done g) = done g.v g.next
-payload_ans (PayloadAns.Need n) = need n
-payload_ans (PayloadAns.Hickup r) = hickup r
-payload_ans PayloadAns.Broken = broken

@@ -2,12 +2,12 @@
 #![tactic(auto)]
 
 ghost use Rattle.std.specs.Prelude.{◌≡◌};
-ghost use Rattle.payload.specs.Payload.{is_verbose_of, count_of, control_type_of, network_type_of, is_control_of, is_network_of, list_of, verbose, control, plain, payload, payload_ans};
+ghost use Rattle.payload.specs.Payload.{is_verbose_of, count_of, control_type_of, network_type_of, is_control_of, is_network_of, list_of, verbose, control, plain, payload};
+ghost use Rattle.wire.specs.Answers.{halt_ans};
 
-use cursor::{Cursor, PassAns, RawCursor};
-use filtering::OptExtended;
-use messageinfo::{ControlType, MessageType};
-use wire::{Range, RangeAns, U8Ans, U32Ans};
+use cursor::{Cursor, RawCursor};
+use messageinfo::{ControlType, ExtendedHeader, MessageType};
+use wire::{Got, Halt, Range};
 
 // A list of arguments is its cursor; a network trace's hands out raw values only.
 #[derive(Clone, Copy)]
@@ -18,35 +18,21 @@ pub enum PayloadContent {
     NetworkTrace(RawCursor),
 }
 
-#[derive(Clone, Copy)]
-pub struct GotPayload {
-    pub v: PayloadContent,
-    pub next: usize,
-}
-
-#[derive(Clone, Copy)]
-pub enum PayloadAns {
-    Done(GotPayload),
-    Need(usize),
-    Hickup(u8),
-    Broken,
-}
-
-fn is_verbose(e: OptExtended) -> bool
+fn is_verbose(e: Option<ExtendedHeader>) -> bool
     ensures { result ≡ is_verbose_of e }
 {
     match e {
-        OptExtended::Present(x) => x.verbose,
-        OptExtended::Absent => false,
+        Some(x) => x.verbose,
+        None => false,
     }
 }
 
-fn count_of(e: OptExtended) -> u8
+fn count_of(e: Option<ExtendedHeader>) -> u8
     ensures { result ≡ count_of e }
 {
     match e {
-        OptExtended::Present(x) => x.argument_count,
-        OptExtended::Absent => 0,
+        Some(x) => x.argument_count,
+        None => 0,
     }
 }
 
@@ -74,27 +60,27 @@ fn network_type(t: MessageType) -> bool
     }
 }
 
-fn is_control(e: OptExtended) -> bool
+fn is_control(e: Option<ExtendedHeader>) -> bool
     ensures { result ≡ is_control_of e }
 {
     match e {
-        OptExtended::Present(x) => {
+        Some(x) => {
             let t = x.message_type;
             control_type(t)
         }
-        OptExtended::Absent => false,
+        None => false,
     }
 }
 
-fn is_network(e: OptExtended) -> bool
+fn is_network(e: Option<ExtendedHeader>) -> bool
     ensures { result ≡ is_network_of e }
 {
     match e {
-        OptExtended::Present(x) => {
+        Some(x) => {
             let t = x.message_type;
             network_type(t)
         }
-        OptExtended::Absent => false,
+        None => false,
     }
 }
 
@@ -109,68 +95,64 @@ fn list_of(network: bool, at: usize, left: usize, big: bool) -> PayloadContent
 }
 
 // As many arguments as counted.
-fn verbose_payload(s: &[u8], at: usize, big: bool, count: u8, network: bool) -> PayloadAns
-    ensures { payload_ans result ≡ verbose big count network s.now at }
+fn verbose_payload(
+    s: &[u8],
+    at: usize,
+    big: bool,
+    count: u8,
+    network: bool,
+) -> Result<Got<PayloadContent>, Halt>
+    ensures { halt_ans result ≡ verbose big count network s.now at }
 {
-    let end = match cursor::pass_arguments(s, at, count as usize, big) {
-        PassAns::Done(end) => end,
-        PassAns::Need(no_end) => return PayloadAns::Need(no_end),
-        PassAns::Hickup(bad_end) => return PayloadAns::Hickup(bad_end),
-    };
+    let end = cursor::pass_arguments(s, at, count as usize, big)?;
     let list = list_of(network, at, count as usize, big);
-    PayloadAns::Done(GotPayload { v: list, next: end })
+    Ok(Got { v: list, next: end })
 }
 
 // One id byte, then the rest of `n` bytes.
-fn control_payload(s: &[u8], at: usize, n: u16) -> PayloadAns
-    ensures { payload_ans result ≡ control n s.now at }
+fn control_payload(s: &[u8], at: usize, n: u16) -> Result<Got<PayloadContent>, Halt>
+    ensures { halt_ans result ≡ control n s.now at }
 {
     if 1 <= n {
-        let id = match wire::parse_u8(s, at) {
-            U8Ans::Done(id) => id,
-            U8Ans::Need(no_id) => return PayloadAns::Need(no_id),
-        };
-        let rest = match wire::take(s, id.next, (n - 1) as usize) {
-            RangeAns::Done(rest) => rest,
-            RangeAns::Need(no_rest) => return PayloadAns::Need(no_rest),
-        };
+        let id = wire::parse_u8(s, at)?;
+        let rest = wire::take(s, id.next, (n - 1) as usize)?;
         let kind = ControlType::from_value(id.v);
         let range = rest.v;
-        PayloadAns::Done(GotPayload {
+        Ok(Got {
             v: PayloadContent::ControlMsg(kind, range),
             next: rest.next,
         })
     } else {
-        PayloadAns::Broken
+        Err(Halt::Broken)
     }
 }
 
 // A 32-bit id, then the rest of `n` bytes.
-fn plain_payload(s: &[u8], at: usize, big: bool, n: u16) -> PayloadAns
-    ensures { payload_ans result ≡ plain big n s.now at }
+fn plain_payload(s: &[u8], at: usize, big: bool, n: u16) -> Result<Got<PayloadContent>, Halt>
+    ensures { halt_ans result ≡ plain big n s.now at }
 {
     if 4 <= n {
-        let id = match wire::parse_u32(s, at, big) {
-            U32Ans::Done(id) => id,
-            U32Ans::Need(no_id) => return PayloadAns::Need(no_id),
-        };
-        let rest = match wire::take(s, id.next, (n - 4) as usize) {
-            RangeAns::Done(rest) => rest,
-            RangeAns::Need(no_rest) => return PayloadAns::Need(no_rest),
-        };
+        let id = wire::parse_u32(s, at, big)?;
+        let rest = wire::take(s, id.next, (n - 4) as usize)?;
         let range = rest.v;
-        PayloadAns::Done(GotPayload {
+        Ok(Got {
             v: PayloadContent::NonVerbose(id.v, range),
             next: rest.next,
         })
     } else {
-        PayloadAns::Broken
+        Err(Halt::Broken)
     }
 }
 
 // The payload of `n` declared bytes at `at`. The slice's end is the end of what it may see.
-pub fn dlt_payload(s: &[u8], at: usize, big: bool, e: OptExtended, n: u16) -> PayloadAns
-    ensures { payload_ans result ≡ payload big e n s.now at }
+pub fn dlt_payload(
+    s: &[u8],
+    at: usize,
+    big: bool,
+    e: Option<ExtendedHeader>,
+    n: u16,
+) -> Result<Got<PayloadContent>, Halt>
+    ensures { halt_ans result ≡ payload big e n s.now at }
 {
     if is_verbose(e) {
         let count = count_of(e);

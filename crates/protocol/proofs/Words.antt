@@ -13,13 +13,14 @@ use Rattle.headertype.proofs.Every.{every, both_left, both_right, same, same_is,
 use Rattle.dlt.specs.TypeInfoWord.{type_length_of, float_width_of, signed_of, unsigned_of, float_of, kind_by, kind_of, coding_of_lem, decoded_of, type_info_of_lem}
 use Rattle.dlt.specs.Accepted.{accepted}
 use Rattle.dlt.specs.Kept.{coding_number_of}
-use Rattle.dlt.specs.declared.OptKind.{OptKind}
 use Rattle.dlt.specs.declared.TypeInfo.{TypeInfo}
-use Rattle.dlt.specs.declared.Decoded.{Decoded}
+use Rattle.std.specs.Prelude.{Result, Ok, Err, Option, Some, None}
+use Rattle.dlt.specs.declared.NoTypeInfo.{NoTypeInfo}
 use Rattle.dlt.proofs.Exactly.{bit4, bit5, bit6, bit7, bit8, bit9, bit10, known, decoded_known, exactly}
 use Rattle.dlt.proofs.Kept.{coding_kept}
 use Rattle.protocol.specs.TypeInfo.{Word, fields_of, typed, tidy, has, type_of, width_of, Meaning, meaning_of}
 use Rattle.protocol.specs.Sets.{both_have, crate_alone, protocol_alone, six_of_both, loose_type, loose, unread, kind_type, kind_width, kind_fixed, told}
+use Rattle.dlt.specs.declared.TypeInfoKind.{TypeInfoKind}
 
 -- ---- a word by the number k of bits 4 to 10, its length l, the bits f, t and s of FIXP, TRAI and STRU, and the rest
 abbrev built : ℕ → ℕ → Bool → Bool → Bool → Bool → ℕ → ℕ → Word
@@ -46,7 +47,7 @@ fields_of_lem w = rw (bit4 w, bit5 w, bit6 w, bit7 w, bit8 w, bit9 w, bit10 w)
 
 -- ---- a test of a word i: a is whether the crate accepts it, o its kind
 abbrev Test : Type 0
-Test = Bool → Word → OptKind → Bool
+Test = Bool → Word → Option TypeInfoKind → Bool
 
 abbrev each : (Bool → Bool) → Bool
 each q = both (q true) (q false)
@@ -90,9 +91,9 @@ crate_set a i o = same (both a (no (typed i))) (both a (loose_type i))
 protocol_set : Test
 protocol_set a i o = same (both (typed i) (no a)) (both (typed i) (unread i))
 
-kind_means : Word → OptKind → Bool
-kind_means i (OptKind.Present k) = both (eqb (kind_type k) (type_of i)) (both (eqb (kind_width k) (width_of i)) (same (kind_fixed k) i.FIXP))
-kind_means i OptKind.Absent = true
+kind_means : Word → Option TypeInfoKind → Bool
+kind_means i (Some k) = both (eqb (kind_type k) (type_of i)) (both (eqb (kind_width k) (width_of i)) (same (kind_fixed k) i.FIXP))
+kind_means i None = true
 
 meant : Test
 meant a i o = pick (six_of_both i) (kind_means i o) true
@@ -180,13 +181,13 @@ module _ (w : ℕ) where
       ∙ tidy_unread (answer w) (typed (fields_of w)) (unread (fields_of w)) (tidy (fields_of w)) (protocol_is w)
 
 -- ---- a word of both has one meaning
-abbrev told_of_lem : Meaning → Decoded → Meaning
-told_of_lem m (Decoded.Accepted i) = told i
-told_of_lem m Decoded.Refused = m
+abbrev told_of_lem : Meaning → Result TypeInfo NoTypeInfo → Meaning
+told_of_lem m (Ok i) = told i
+told_of_lem m (Err r) = m
 
-told_kind : (w : ℕ) (o : OptKind) → kind_means (fields_of w) o ≡ true → told_of_lem (meaning_of (fields_of w)) (decoded_of w o) ≡ meaning_of (fields_of w)
+told_kind : (w : ℕ) (o : Option TypeInfoKind) → kind_means (fields_of w) o ≡ true → told_of_lem (meaning_of (fields_of w)) (decoded_of w o) ≡ meaning_of (fields_of w)
 unfolding kind_means
-told_kind w (OptKind.Present k) e =
+told_kind w (Some k) e =
     let i = fields_of w in
     let type-test = eqb (kind_type k) (type_of i) in
     let width-test = eqb (kind_width k) (width_of i) in
@@ -197,9 +198,9 @@ told_kind w (OptKind.Present k) e =
     let fixed : kind_fixed k ≡ i.FIXP = same_is (kind_fixed k) i.FIXP (both_right width-test fixed-test others) in
     let coding : coding_number_of (coding_of_lem (w / 32768 % 8)) ≡ w / 32768 % 8 = coding_kept _ (omega arith) in
     rw (type, width, fixed, coding)
-told_kind w OptKind.Absent e = refl
+told_kind w None e = refl
 
-pub one_meaning : (w : ℕ) (i : TypeInfo) → type_info_of_lem w ≡ Decoded.Accepted i → both_have w ≡ true → told i ≡ meaning_of (fields_of w)
+pub one_meaning : (w : ℕ) (i : TypeInfo) → type_info_of_lem w ≡ Ok i → both_have w ≡ true → told i ≡ meaning_of (fields_of w)
 unfolding type_info_of_lem
 one_meaning w i e b =
     ap (told_of_lem (meaning_of (fields_of w))) (sym e)

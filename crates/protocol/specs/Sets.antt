@@ -2,11 +2,10 @@
 -- crate's answer says in the protocol's words.
 use Rattle.std.specs.Prelude.{ℕ, ◌+◌, ◌*◌, Bool, true, false, eqb}
 use Rattle.wire.specs.Parser.{pick}
-use Rattle.headertype.specs.Bits.{no, both, either, from_to}
+use Rattle.headertype.specs.Bits.{no, both, either, from_to, one_if_of}
 use Rattle.dlt.specs.TypeInfoWord.{length_bytes, float_bytes}
 use Rattle.dlt.specs.Accepted.{acceptable}
 use Rattle.dlt.specs.Kept.{coding_number_of}
-use Rattle.headertype.specs.Bits.{one_if_of}
 use Rattle.dlt.specs.declared.TypeInfoKind.{TypeInfoKind}
 use Rattle.dlt.specs.declared.TypeInfo.{TypeInfo}
 use Rattle.protocol.specs.TypeInfo.{Word, fields_of, integer, tidy, has, Meaning}

@@ -1,8 +1,7 @@
 -- The type info word of a verbose argument, by the protocol's fields; which words the protocol has, and what they mean.
 use Rattle.std.specs.Prelude.{ℕ, ◌+◌, ◌/◌, ◌%◌, Bool, true, leb, eqb}
 use Rattle.wire.specs.Parser.{pick}
-use Rattle.headertype.specs.Bits.{flag, both, either, from_to}
-use Rattle.headertype.specs.Bits.{one_if_of}
+use Rattle.headertype.specs.Bits.{flag, both, either, from_to, one_if_of}
 
 -- the fields in the order of their bits: BOOL is bit 4, SINT 5, UINT 6, FLOA 7, ARAY 8, STRG 9, RAWD 10, VARI 11, FIXP 12, TRAI 13, STRU 14
 pub record Word : Type 0 where

@@ -1,3 +1,2 @@
 pub mod Patterns
 pub mod Reading
-pub mod Determined

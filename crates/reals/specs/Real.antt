@@ -3,14 +3,11 @@
 use Rattle.std.specs.Prelude.{ℕ, Bool, Float}
 use Rattle.std.specs.Float.{Format, binary32, binary64}
 use Rattle.std.specs.Float.Ieee.{nan_bits, of_bits, to_bits}
-use Rattle.wire.specs.Answer.{Ans, Parser}
-use Rattle.wire.specs.Answer.Ans.{done, need}
+use Rattle.wire.specs.Answer.{Parser}
 use Rattle.wire.specs.Parser.{pick}
 use Rattle.wire.specs.Number.{numeric}
 use Rattle.reals.specs.declared.Real32.{Real32}
 use Rattle.reals.specs.declared.Real64.{Real64}
-use Rattle.reals.specs.declared.F32Ans.{F32Ans}
-use Rattle.reals.specs.declared.F64Ans.{F64Ans}
 
 -- at either format: the pattern itself where it is a NaN's, else the float that it stands for
 abbrev pub real_of : {X : Type 0} → Format → (Float → X) → (ℕ → X) → ℕ → X
@@ -37,12 +34,3 @@ pattern32 (Real32.NotANumber b) = b
 abbrev pub pattern64 : Real64 → ℕ
 pattern64 (Real64.Number x) = to_bits binary64 x
 pattern64 (Real64.NotANumber b) = b
-
--- the answers that the enums stand for
-abbrev pub f32_ans : F32Ans → Ans Real32
-f32_ans (F32Ans.Done g) = done g.v g.next
-f32_ans (F32Ans.Need n) = need n
-
-abbrev pub f64_ans : F64Ans → Ans Real64
-f64_ans (F64Ans.Done g) = done g.v g.next
-f64_ans (F64Ans.Need n) = need n

@@ -6,9 +6,10 @@
 ghost use Rattle.std.specs.Prelude.{◌≡◌};
 ghost use Rattle.std.specs.Float.{binary32};
 ghost use Rattle.std.specs.Float.Ieee.{of_bits};
-ghost use Rattle.reals.specs.Real.{real32_of, real64_of, float32, float64, pattern32, pattern64, f32_ans, f64_ans};
+ghost use Rattle.reals.specs.Real.{real32_of, real64_of, float32, float64, pattern32, pattern64};
+ghost use Rattle.wire.specs.Answers.{need_ans};
 
-use wire::{U32Ans, U64Ans};
+use wire::{Got, Need};
 
 // A 32-bit float as it was read.
 #[derive(Clone, Copy)]
@@ -17,35 +18,11 @@ pub enum Real32 {
     NotANumber(u32),
 }
 
-#[derive(Clone, Copy)]
-pub struct GotF32 {
-    pub v: Real32,
-    pub next: usize,
-}
-
-#[derive(Clone, Copy)]
-pub enum F32Ans {
-    Done(GotF32),
-    Need(usize),
-}
-
 // A 64-bit float as it was read.
 #[derive(Clone, Copy)]
 pub enum Real64 {
     Number(f64),
     NotANumber(u64),
-}
-
-#[derive(Clone, Copy)]
-pub struct GotF64 {
-    pub v: Real64,
-    pub next: usize,
-}
-
-#[derive(Clone, Copy)]
-pub enum F64Ans {
-    Done(GotF64),
-    Need(usize),
 }
 
 // What is kept of a pattern: the float that has it, or the pattern of a NaN.
@@ -68,28 +45,24 @@ fn kept64(bits: u64) -> Real64
     Real64::Number(f64::from_bits(bits))
 }
 
-pub fn parse_f32(s: &[u8], at: usize, big: bool) -> F32Ans
-    ensures { f32_ans result ≡ float32 big s.now at }
+pub fn parse_f32(s: &[u8], at: usize, big: bool) -> Result<Got<Real32>, Need>
+    ensures { need_ans result ≡ float32 big s.now at }
 {
-    match wire::parse_u32(s, at, big) {
-        U32Ans::Done(bits) => F32Ans::Done(GotF32 {
-            v: kept32(bits.v),
-            next: bits.next,
-        }),
-        U32Ans::Need(no_bits) => F32Ans::Need(no_bits),
-    }
+    let bits = wire::parse_u32(s, at, big)?;
+    Ok(Got {
+        v: kept32(bits.v),
+        next: bits.next,
+    })
 }
 
-pub fn parse_f64(s: &[u8], at: usize, big: bool) -> F64Ans
-    ensures { f64_ans result ≡ float64 big s.now at }
+pub fn parse_f64(s: &[u8], at: usize, big: bool) -> Result<Got<Real64>, Need>
+    ensures { need_ans result ≡ float64 big s.now at }
 {
-    match wire::parse_u64(s, at, big) {
-        U64Ans::Done(bits) => F64Ans::Done(GotF64 {
-            v: kept64(bits.v),
-            next: bits.next,
-        }),
-        U64Ans::Need(no_bits) => F64Ans::Need(no_bits),
-    }
+    let bits = wire::parse_u64(s, at, big)?;
+    Ok(Got {
+        v: kept64(bits.v),
+        next: bits.next,
+    })
 }
 
 // The float alone, at every pattern: whatever pattern a NaN has, the logic has one NaN.

@@ -19,7 +19,8 @@ use Rattle.wire.specs.Answer.{Ans, Parser, Carried, Numbered, numbered}
 use Rattle.wire.specs.Answer.Ans.{done, need, hickup, broken}
 use Rattle.filter.specs.Filter.{filter_of, fields, wanted, counts, field, tag_next, ending}
 use Rattle.filter.specs.declared.Filter.{Filter}
-use Rattle.filter.specs.declared.FilterAns.{FilterAns}
+use Rattle.filter.specs.declared.FilterError.{FilterError}
+use Rattle.std.specs.Prelude.{Result, Ok, Err}
 use Rattle.parse.specs.Message.{message, judged, message_of, numbered_answer, routed, headers, finished, maybe_extended_of, having_from, seen, headers_of_lem, body, item, passed, item_of, is_big_of}
 use Rattle.parse.specs.declared.ParsedMessage.{ParsedMessage}
 use Rattle.wire.specs.Parser.{◌>>=◌, ret, here, refuse, choose, asking, having, fixed, fail, times}
@@ -72,12 +73,12 @@ of_rule : {A : Type 0} {p : Parser A} {all : List ℕ} → Gives all p → (s : 
 of_rule {A} {p} {all} h s at r e = of_answer_lem all (p s at) (h.gives s at) r e
 
 -- ---- one message
-judged_only : {A : Type 0} (rule : Filter → Parser A) → ((filter : Filter) → Gives message_reasons (rule filter)) → (s : List ℕ) (v : FilterAns) (r : ℕ)
+judged_only : {A : Type 0} (rule : Filter → Parser A) → ((filter : Filter) → Gives message_reasons (rule filter)) → (s : List ℕ) (v : Result Filter FilterError) (r : ℕ)
     → (numbered_answer (judged (λ filter. rule filter s 0) v)).carries ≡ Carried.reason r → is_one_of r message_reasons ≡ true
 unfolding judged
-judged_only rule h s (FilterAns.Good filter) r e = of_rule (h filter) s 0 r e
-judged_only rule h s FilterAns.Retired r e = absurd (omega (arith, ap sort e))
-judged_only rule h s FilterAns.Bad r e = absurd (omega (arith, ap sort e))
+judged_only rule h s (Ok filter) r e = of_rule (h filter) s 0 r e
+judged_only rule h s (Err FilterError.Retired) r e = absurd (omega (arith, ap sort e))
+judged_only rule h s (Err FilterError.Bad) r e = absurd (omega (arith, ap sort e))
 
 -- what a sum says of a reason, the message's answer says
 of_sum : (c : Carried ParsedMessage) (s : List ℕ) (r : ℕ) → of_carried c s ≡ Carried.reason r → c ≡ Carried.reason r

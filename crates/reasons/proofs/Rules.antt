@@ -13,17 +13,14 @@ use Rattle.wire.specs.Run.{range, bytes}
 use Rattle.wire.specs.declared.Ended.{Ended}
 use Rattle.strings.specs.Utf8.{valid_up_to_of}
 use Rattle.mark.specs.First.{pattern, find}
-use Rattle.mark.specs.declared.Found.{Found}
-use Rattle.headertype.specs.declared.OptRange.{OptRange}
 use Rattle.headertype.specs.declared.StandardHeader.{StandardHeader}
 use Rattle.headers.specs.Standard.{maybe_id, maybe_number_of, flagged, standard}
 use Rattle.headers.specs.Extended.{named, extended}
 use Rattle.storage.specs.Storage.{from_mark, marked, owned, stored, storage}
 use Rattle.storage.specs.Consume.{tagged, skip, from, whole, consume}
-use Rattle.storage.specs.declared.OptCount.{OptCount}
-use Rattle.storage.specs.declared.OptStored.{OptStored}
 use Rattle.dlt.specs.TypeInfoWord.{type_info_of_lem}
-use Rattle.dlt.specs.declared.Decoded.{Decoded}
+use Rattle.std.specs.Prelude.{Result, Ok, Err, Option, Some, None}
+use Rattle.dlt.specs.declared.NoTypeInfo.{NoTypeInfo}
 use Rattle.dlt.specs.declared.TypeInfo.{TypeInfo}
 use Rattle.dlt.specs.declared.TypeInfoKind.{TypeInfoKind}
 use Rattle.dlt.specs.declared.FloatWidth.{FloatWidth}
@@ -35,13 +32,11 @@ use Rattle.arguments.specs.Argument.{decoded, type_info_of, plain, scaled, boole
 use Rattle.cursor.specs.Cursor.{arguments, turn}
 use Rattle.cursor.specs.Raw.{raw_of_lem, hand_out_of, first_raw}
 use Rattle.cursor.specs.declared.Cursor.{Cursor}
-use Rattle.cursor.specs.declared.RawTurn.{RawTurn}
 use Rattle.signals.specs.Signal as signalling
 use Rattle.signals.specs.Signal.{utf8, fixed_width, in_data_of, closed, signal}
 use Rattle.signals.specs.Signals.{signals, constructed, signal_turn}
 use Rattle.signals.specs.declared.SignalCursor.{SignalCursor}
 use Rattle.filter.specs.declared.Filter.{Filter}
-use Rattle.filtering.specs.declared.OptExtended.{OptExtended}
 use Rattle.payload.specs.Payload as pay
 use Rattle.payload.specs.Payload.{payload}
 use Rattle.parse.specs.Message.{having_from, seen, maybe_extended_of, finished, headers, routed, passed, item, body, message}
@@ -49,6 +44,10 @@ use Rattle.parse.specs.declared.Headers.{Headers}
 use Rattle.confined.specs.Confined.{inside, confined_body_of, confined_message_of}
 use Rattle.reasons.specs.Reasons.{is_one_of}
 use Rattle.reasons.proofs.Gives.{Of, Gives, ret_gives, refuse_gives, then_gives, times_gives, numeric_gives, bytes_gives, having_gives, confined_gives, giving}
+use Rattle.messageinfo.specs.declared.ExtendedHeader.{ExtendedHeader}
+use Rattle.storage.specs.declared.Stored.{Stored}
+use Rattle.wire.specs.declared.Range.{Range}
+use Rattle.cursor.specs.declared.HandedRaw.{HandedRaw}
 
 -- ---- none
 module _ (all : List ℕ) where
@@ -64,9 +63,9 @@ module _ (all : List ℕ) where
   unfolding storage marked
   storage_gives = record { gives = λ s at. by s at (leb 16 (length s - at)) (find pattern s at) }
     where
-      by : (s : List ℕ) (at : ℕ) (t : Bool) (o : Found) → Of all (pick t (from_mark stored OptStored.Absent s at o) (need 0))
-      by s at true (Found.At i) = (stored_gives (i - at)).gives s i
-      by s at true Found.Nothing = tt
+      by : (s : List ℕ) (at : ℕ) (t : Bool) (o : Option ℕ) → Of all (pick t (from_mark stored None s at o) (need 0))
+      by s at true (Some i) = (stored_gives (i - at)).gives s i
+      by s at true None = tt
       by s at false o = tt
 
   ecu_gives : (t : Bool) → Gives all (maybe_id t)
@@ -175,7 +174,7 @@ module _ (all : List ℕ) where
       by s at true = tt
       by s at false = tt
 
-  finished_gives : (f : List ℕ) (filter : Filter) (o : OptStored) (start : ℕ) (h : StandardHeader) → Gives all (finished f filter o start h)
+  finished_gives : (f : List ℕ) (filter : Filter) (o : Option Stored) (start : ℕ) (h : StandardHeader) → Gives all (finished f filter o start h)
   unfolding finished
   finished_gives f filter o start h = search (giving, maybe_extended_gives, from_gives) depth 20
 
@@ -192,7 +191,7 @@ module _ (all : List ℕ) (one : is_one_of 1 all ≡ true) where
   unfolding standard
   standard_gives = search (giving, flagged_gives) depth 20
 
-  headers_gives : (f : List ℕ) (filter : Filter) (o : OptStored) → Gives all (headers f filter o)
+  headers_gives : (f : List ℕ) (filter : Filter) (o : Option Stored) → Gives all (headers f filter o)
   unfolding headers
   headers_gives f filter o = search (giving, standard_gives, finished_gives) depth 20
 
@@ -202,10 +201,10 @@ module _ (all : List ℕ) (one : is_one_of 1 all ≡ true) where
 
 -- ---- 2: a type info word that doesn't decode
 module _ (all : List ℕ) (two : is_one_of 2 all ≡ true) where
-  decoded_gives : (d : Decoded) → Gives all (decoded d)
+  decoded_gives : (d : Result TypeInfo NoTypeInfo) → Gives all (decoded d)
   unfolding decoded
-  decoded_gives (Decoded.Accepted t) = record { gives = λ s at. tt }
-  decoded_gives Decoded.Refused = record { gives = λ s at. two }
+  decoded_gives (Ok t) = record { gives = λ s at. tt }
+  decoded_gives (Err r) = record { gives = λ s at. two }
 
   type_info_gives : (big : Bool) → Gives all (type_info_of big)
   unfolding type_info_of
@@ -219,9 +218,9 @@ module _ (all : List ℕ) (two : is_one_of 2 all ≡ true) where
   unfolding turn
   turn_gives c = search (giving, argument_gives) depth 20
 
-  hand_out_gives : (big : Bool) (n : ℕ) (rest : Parser RawTurn) → Gives all rest → (o : OptRange) → Gives all (hand_out_of big n rest o)
-  hand_out_gives big n rest h (OptRange.Present r) = search giving depth 20
-  hand_out_gives big n rest h OptRange.Absent = h
+  hand_out_gives : (big : Bool) (n : ℕ) (rest : Parser (Option HandedRaw)) → Gives all rest → (o : Option Range) → Gives all (hand_out_of big n rest o)
+  hand_out_gives big n rest h (Some r) = search giving depth 20
+  hand_out_gives big n rest h None = h
 
   pub raw_gives : (big : Bool) (n : ℕ) → Gives all (first_raw big n)
   unfolding first_raw
@@ -236,7 +235,7 @@ module _ (all : List ℕ) (two : is_one_of 2 all ≡ true) where
   unfolding pay.verbose
   verbose_gives big n network = search (giving, arguments_gives) depth 20
 
-  payload_gives : (big : Bool) (e : OptExtended) (n : ℕ) → Gives all (payload big e n)
+  payload_gives : (big : Bool) (e : Option ExtendedHeader) (n : ℕ) → Gives all (payload big e n)
   unfolding payload
   payload_gives big e n = search (giving, verbose_gives, control_gives, run_gives) depth 20
 
@@ -292,7 +291,7 @@ module _ (all : List ℕ) (one : is_one_of 1 all ≡ true) (four : is_one_of 4 a
   unfolding consume
   consume_gives = record { gives = λ s at. by s at (leb 1 (length s - at)) }
     where
-      by : (s : List ℕ) (at : ℕ) (t : Bool) → Of all (pick t ((skip >>= (λ lead. whole)) s at) (done OptCount.Absent at))
+      by : (s : List ℕ) (at : ℕ) (t : Bool) → Of all (pick t ((skip >>= (λ lead. whole)) s at) (done None at))
       by s at true = (then_gives all skip (λ lead. whole) (skip_gives all four) (λ n. whole_gives)).gives s at
       by s at false = tt
 

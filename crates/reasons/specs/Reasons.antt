@@ -1,22 +1,21 @@
 -- Document 01, "Hickup reasons": which of them each call gives.
-use Rattle.std.specs.Prelude.{ℕ, ◌≡◌, Bool, true, false, List, [], ◌∷◌, eqb}
+use Rattle.std.specs.Prelude.{ℕ, ◌≡◌, Bool, true, false, List, [], ◌∷◌, eqb, Option}
 use Rattle.wire.specs.Answer.{Carried, Numbered, numbered}
 use Rattle.wire.specs.Parser.{pick}
 use Rattle.storage.specs.Consume.{skip, consume}
-use Rattle.storage.specs.declared.OptCount.{OptCount}
 use Rattle.cursor.specs.Cursor.{turn}
 use Rattle.cursor.specs.Raw.{raw_turn}
 use Rattle.cursor.specs.declared.Cursor.{Cursor}
-use Rattle.cursor.specs.declared.Turn.{Turn}
 use Rattle.cursor.specs.declared.RawCursor.{RawCursor}
-use Rattle.cursor.specs.declared.RawTurn.{RawTurn}
 use Rattle.signals.specs.Signals.{constructed, signal_turn}
 use Rattle.signals.specs.declared.SignalCursor.{SignalCursor}
-use Rattle.signals.specs.declared.SignalTurn.{SignalTurn}
 use Rattle.parse.specs.Message.{message_of, numbered_answer}
 use Rattle.parse.specs.declared.ParsedMessage.{ParsedMessage}
 use Rattle.confined.specs.Confined.{confined_message_of_lem}
 use Rattle.confined.specs.declared.ConfinedMessage.{ConfinedMessage}
+use Rattle.cursor.specs.declared.HandedRaw.{HandedRaw}
+use Rattle.signals.specs.declared.HandedSignal.{HandedSignal}
+use Rattle.cursor.specs.declared.Handed.{Handed}
 
 abbrev pub is_one_of : ℕ → List ℕ → Bool
 is_one_of r [] = false
@@ -45,24 +44,24 @@ abbrev pub confined_call : List ℕ × Bool × List ℕ → Numbered ConfinedMes
 confined_call i = numbered_answer (confined_message_of_lem i.0 i.1 i.2)
 
 -- `Cursor::next` and `RawCursor::next`: the cursor, the bytes
-abbrev pub cursor_call : Cursor × List ℕ → Numbered Turn
+abbrev pub cursor_call : Cursor × List ℕ → Numbered (Option Handed)
 cursor_call i = numbered (turn i.0 i.1 i.0.at)
 
-abbrev pub raw_call : RawCursor × List ℕ → Numbered RawTurn
+abbrev pub raw_call : RawCursor × List ℕ → Numbered (Option HandedRaw)
 raw_call i = numbered (raw_turn i.0 i.1 i.0.at)
 
 -- `skip_storage_header` and `dlt_consume_msg`: the bytes, and where they are asked
 abbrev pub skip_call : List ℕ × ℕ → Numbered ℕ
 skip_call i = numbered (skip i.0 i.1)
 
-abbrev pub consume_call : List ℕ × ℕ → Numbered OptCount
+abbrev pub consume_call : List ℕ × ℕ → Numbered (Option ℕ)
 consume_call i = numbered (consume i.0 i.1)
 
 -- `construct_arguments`: the byte order, the words, the signal data; `SignalCursor::next`: the cursor, the words, the signal data
 abbrev pub construct_call : Bool × List ℕ × List ℕ → Numbered ℕ
 construct_call i = numbered (constructed i.0 i.1 i.2 0)
 
-abbrev pub signal_call : SignalCursor × List ℕ × List ℕ → Numbered SignalTurn
+abbrev pub signal_call : SignalCursor × List ℕ × List ℕ → Numbered (Option HandedSignal)
 signal_call i = numbered (signal_turn i.1 i.0 i.2 i.0.at)
 
 -- ---- and their reasons

@@ -1,31 +1,26 @@
 // The confined reading of one message, as `conf` shows it.
 use crate::writer::Out;
-use crate::{contents, message, msg, writer};
-use confined::{ConfinedAns, ConfinedMessage, GotConfined};
+use crate::{contents, message, msg};
+use confined::ConfinedMessage;
+use wire::Got;
 
-pub fn shown(s: &[u8], f: &[u8], with_storage_header: bool, out: &mut Out, at: usize) -> usize {
+pub fn shown(s: &[u8], f: &[u8], with_storage_header: bool, out: &mut Out) {
     match confined::confined_message(s, f, with_storage_header) {
-        ConfinedAns::BadFilter => writer::byte(out, at, b'1'),
-        ConfinedAns::RetiredTag => writer::literal(out, at, b"13"),
-        ConfinedAns::Done(got) => read(s, got, out, at),
-        ConfinedAns::Need(need) => writer::need(out, at, need),
-        ConfinedAns::Hickup(reason) => writer::hickup(out, at, reason),
-        ConfinedAns::Broken => writer::byte(out, at, b'4'),
+        Ok(got) => read(s, got, out),
+        Err(why) => msg::refused(why, out),
     }
 }
 
 // A message that was read, that the filter drops, or whose arguments don't fit. Its bytes end where it says, its arguments where they do.
-fn read(s: &[u8], got: GotConfined, out: &mut Out, at: usize) -> usize {
+fn read(s: &[u8], got: Got<ConfinedMessage>, out: &mut Out) {
     let end = got.next;
-    let v = got.v;
-    match v {
+    match got.v {
         ConfinedMessage::Item(m) => {
-            let used = writer::labelled(out, at, b"0 item used=", end as u64);
-            let p = m.payload;
-            let contents_end = contents::end_of(s, p, end);
-            message::message(out, used, s, m, contents_end, false)
+            out.labelled(b"0 item used=", end);
+            let contents_end = contents::end_of(s, m.payload, end);
+            message::message(out, s, m, contents_end, false);
         }
-        ConfinedMessage::FilteredOut(n) => msg::unread(out, at, b"0 filtered used=", end, n),
-        ConfinedMessage::Overrun(n) => msg::unread(out, at, b"0 overrun used=", end, n),
+        ConfinedMessage::FilteredOut(n) => msg::unread(out, b"0 filtered used=", end, n),
+        ConfinedMessage::Overrun(n) => msg::unread(out, b"0 overrun used=", end, n),
     }
 }

@@ -1,15 +1,14 @@
 // `len BYTES`: the declared length of a standard header, parse_length.
-use crate::writer;
 use crate::writer::Out;
-use wire::U16Ans;
+use wire::Need;
 
 // The answer to the bytes of a request.
-pub fn answer(s: &[u8], out: &mut Out, at: usize) -> usize {
+pub fn answer(s: &[u8], out: &mut Out) {
     match headers::parse_length(s, 0) {
-        U16Ans::Done(got) => {
-            let used = writer::used(out, at, got.next);
-            writer::labelled(out, used, b" len=", got.v as u64)
+        Ok(got) => {
+            out.used(got.next);
+            out.labelled(b" len=", got.v);
         }
-        U16Ans::Need(need) => writer::need(out, at, need),
+        Err(Need(need)) => out.need(need),
     }
 }

@@ -1,22 +1,21 @@
 // `mi BYTE`: the message type of a message info byte, MessageType::try_from.
+use crate::pattern;
 use crate::writer::Out;
-use crate::{pattern, writer};
-use filtering::OptExtended;
-use headertype::{Endianness, OptNum, OptText, StandardHeader};
+use headertype::{Endianness, StandardHeader};
 use messageinfo::{ExtendedHeader, MessageType};
 use parse::Headers;
 use payload::PayloadContent;
-use storage::OptStored;
 use wire::{Ended, Range, Text};
 
 // The answer to the bytes of a request: it has exactly one.
-pub fn answer(s: &[u8], out: &mut Out, at: usize) -> usize {
-    if s.len() != 1 {
-        return writer::bad_request(out, at);
-    }
+pub fn answer(s: &[u8], out: &mut Out) -> Option<()> {
+    let [info] = s else {
+        return None;
+    };
     let mut numbers = [0u64; 37];
-    put(&mut numbers, MessageType::try_from(s[0]));
-    pattern::fill(out, at, b"0 &", &numbers, 22, s)
+    put(&mut numbers, MessageType::try_from(*info));
+    pattern::fill(out, b"0 &", &numbers, 22, s);
+    Some(())
 }
 
 // The numbers of a message that has nothing but a type.
@@ -34,9 +33,9 @@ fn put(numbers: &mut [u64], its_type: MessageType) {
         context_id: nothing,
     };
     let heads = Headers {
-        storage_header: OptStored::Absent,
+        storage_header: None,
         header: no_header(),
-        extended_header: OptExtended::Present(extended),
+        extended_header: Some(extended),
         filtered: false,
     };
     numbers::put_item(numbers, heads, PayloadContent::NonVerbose(0, nowhere));
@@ -48,9 +47,9 @@ fn no_header() -> StandardHeader {
         endianness: Endianness::Little,
         has_extended_header: false,
         message_counter: 0,
-        ecu_id: OptText::Absent,
-        session_id: OptNum::Absent,
-        timestamp: OptNum::Absent,
+        ecu_id: None,
+        session_id: None,
+        timestamp: None,
         payload_length: 0,
     }
 }

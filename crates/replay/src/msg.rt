@@ -1,8 +1,8 @@
 // `msg STORAGE FILTER BYTES`: one message, dlt_message; behind `why` with why its texts ended. `conf STORAGE FILTER BYTES`: the confined reading of it.
-use crate::digits::Flag;
 use crate::writer::Out;
-use crate::{conf, digits, fields, message, writer};
-use parse::{GotParsed, MessageAns, ParsedMessage};
+use crate::{conf, digits, message};
+use parse::{ParsedMessage, Refusal};
+use wire::Got;
 
 // Which reading is asked for.
 #[derive(Clone, Copy)]
@@ -12,96 +12,54 @@ pub enum Asked {
     Confined,
 }
 
-// The answer to a request whose kind ends at `kind_end`.
-pub fn answer(
-    line: &[u8],
-    kind_end: usize,
-    asked: Asked,
-    body: &mut [u8],
-    out: &mut Out,
-    at: usize,
-) -> usize {
-    let mode = fields::after(line, kind_end);
-    let chosen = fields::after(line, mode.end);
-    let n = digits::last_bytes(line, chosen.end, body);
-    if body.len() < n {
-        return writer::bad_request(out, at);
-    }
-    let k = digits::hex_bytes(line, chosen, &mut body[n..]);
-    if body.len() - n < k {
-        return writer::bad_request(out, at);
-    }
-    let with_storage_header = digits::storage(line, mode);
-    by_mode(body, n, k, with_storage_header, asked, out, at)
-}
-
-// The answer for a message with a storage header, or for one without. Its bytes are the first `n`, its filter's the `k` behind them.
-fn by_mode(
-    body: &[u8],
-    n: usize,
-    k: usize,
-    with_storage_header: Flag,
-    asked: Asked,
-    out: &mut Out,
-    at: usize,
-) -> usize {
-    let s = digits::first(body, n);
-    let f = digits::behind(body, n, k);
-    match with_storage_header {
-        Flag::Yes => by_reading(s, f, true, asked, out, at),
-        Flag::No => by_reading(s, f, false, asked, out, at),
-        Flag::Bad => writer::bad_request(out, at),
-    }
-}
-
-fn by_reading(
-    s: &[u8],
-    f: &[u8],
-    with_storage_header: bool,
-    asked: Asked,
-    out: &mut Out,
-    at: usize,
-) -> usize {
+// The answer to the words behind the kind.
+pub fn answer(words: &[&[u8]], asked: Asked, body: &mut [u8], out: &mut Out) -> Option<()> {
+    let [mode, chosen, bytes] = words else {
+        return None;
+    };
+    let (s, room) = digits::hex_bytes(bytes, body)?;
+    let (f, _) = digits::hex_bytes(chosen, room)?;
+    let with_storage_header = digits::storage(mode)?;
     match asked {
-        Asked::Message => shown(s, f, with_storage_header, false, out, at),
-        Asked::Reasons => shown(s, f, with_storage_header, true, out, at),
-        Asked::Confined => conf::shown(s, f, with_storage_header, out, at),
+        Asked::Message => shown(s, f, with_storage_header, false, out),
+        Asked::Reasons => shown(s, f, with_storage_header, true, out),
+        Asked::Confined => conf::shown(s, f, with_storage_header, out),
+    }
+    Some(())
+}
+
+fn shown(s: &[u8], f: &[u8], with_storage_header: bool, why: bool, out: &mut Out) {
+    match parse::dlt_message(s, f, with_storage_header) {
+        Ok(got) => parsed(s, got, why, out),
+        Err(refusal) => refused(refusal, out),
     }
 }
 
-fn shown(
-    s: &[u8],
-    f: &[u8],
-    with_storage_header: bool,
-    why: bool,
-    out: &mut Out,
-    at: usize,
-) -> usize {
-    match parse::dlt_message(s, f, with_storage_header) {
-        MessageAns::BadFilter => writer::byte(out, at, b'1'),
-        MessageAns::RetiredTag => writer::literal(out, at, b"13"),
-        MessageAns::Done(got) => parsed(s, got, why, out, at),
-        MessageAns::Need(need) => writer::need(out, at, need),
-        MessageAns::Hickup(reason) => writer::hickup(out, at, reason),
-        MessageAns::Broken => writer::byte(out, at, b'4'),
+// Why there is no message.
+pub fn refused(refusal: Refusal, out: &mut Out) {
+    match refusal {
+        Refusal::BadFilter => out.byte(b'1'),
+        Refusal::RetiredTag => out.literal(b"13"),
+        Refusal::Need(n) => out.need(n),
+        Refusal::Hickup(reason) => out.hickup(reason),
+        Refusal::Broken => out.byte(b'4'),
     }
 }
 
 // A message that was read, or that the filter drops.
-fn parsed(s: &[u8], got: GotParsed, why: bool, out: &mut Out, at: usize) -> usize {
+fn parsed(s: &[u8], got: Got<ParsedMessage>, why: bool, out: &mut Out) {
     let end = got.next;
-    let v = got.v;
-    match v {
+    match got.v {
         ParsedMessage::Item(m) => {
-            let used = writer::labelled(out, at, b"0 item used=", end as u64);
-            message::message(out, used, s, m, end, why)
+            out.labelled(b"0 item used=", end);
+            message::message(out, s, m, end, why);
         }
-        ParsedMessage::FilteredOut(n) => unread(out, at, b"0 filtered used=", end, n),
+        ParsedMessage::FilteredOut(n) => unread(out, b"0 filtered used=", end, n),
     }
 }
 
 // A message of whose payload only the length `n` is told.
-pub fn unread(out: &mut Out, at: usize, label: &[u8], end: usize, n: u16) -> usize {
-    let used = writer::labelled(out, at, label, end as u64);
-    writer::labelled(out, used, b" plen=", n as u64)
+pub fn unread(out: &mut Out, label: &[u8], end: usize, n: u16) {
+    out.labelled(label, end);
+    out.labelled(b" plen=", n);
 }

@@ -9,16 +9,11 @@
 //     *  a value: which, first, second
 //
 // What each number means is said where the numbers are made: crate numbers, specs/Layout.antt and specs/Arguments.antt.
-use crate::writer;
 use crate::writer::Out;
 
 // The k-th number from a place on, 0 where there is none.
 fn nth(numbers: &[u64], place: usize, k: usize) -> u64 {
-    let i = std::num::wrapping_add_usize(place, k);
-    if i < numbers.len() {
-        return numbers[i];
-    }
-    0
+    numbers.get(place.wrapping_add(k)).copied().unwrap_or(0)
 }
 
 // How many numbers a sign takes.
@@ -33,69 +28,59 @@ fn takes(sign: u8) -> usize {
 }
 
 // A text with the numbers from a place on. What is shown of a text or a run of bytes stands in `s`.
-pub fn fill(
-    out: &mut Out,
-    at: usize,
-    text: &[u8],
-    numbers: &[u64],
-    from: usize,
-    s: &[u8],
-) -> usize {
-    let mut next = at;
+pub fn fill(out: &mut Out, text: &[u8], numbers: &[u64], from: usize, s: &[u8]) {
     let mut place = from;
-    let mut i = 0;
-    while i < text.len() {
-        let sign = text[i];
-        next = one(out, next, sign, numbers, place, s);
-        place = std::num::wrapping_add_usize(place, takes(sign));
-        i += 1;
+    for sign in text {
+        one(out, *sign, numbers, place, s);
+        place = place.wrapping_add(takes(*sign));
     }
-    next
 }
 
 // What stands for a sign.
-fn one(out: &mut Out, at: usize, sign: u8, numbers: &[u64], place: usize, s: &[u8]) -> usize {
+fn one(out: &mut Out, sign: u8, numbers: &[u64], place: usize, s: &[u8]) {
     let first = nth(numbers, place, 0);
     let second = nth(numbers, place, 1);
     match sign {
-        b'#' => writer::decimal(out, at, first),
-        b'~' => at,
-        b'@' => writer::text(out, at, s, first as usize, second as usize),
-        b'%' => maybe_number(out, at, first, second),
-        b'!' => writer::byte(out, at, order(first)),
-        b':' => writer::byte(out, at, reason(first)),
-        b'&' => message_type(out, at, first, second),
-        b'$' => kind(out, at, first, second),
-        _ => longer(out, at, sign, numbers, place, s),
+        b'#' => out.decimal(first),
+        b'~' => {}
+        b'@' => out.text(s, first as usize, second as usize),
+        b'%' => maybe_number(out, first, second),
+        b'!' => out.byte(order(first)),
+        b':' => out.byte(reason(first)),
+        b'&' => message_type(out, first, second),
+        b'$' => kind(out, first, second),
+        _ => longer(out, sign, numbers, place, s),
     }
 }
 
 // What stands for a sign that takes more than two numbers; any other character stands for itself.
-fn longer(out: &mut Out, at: usize, sign: u8, numbers: &[u64], place: usize, s: &[u8]) -> usize {
+fn longer(out: &mut Out, sign: u8, numbers: &[u64], place: usize, s: &[u8]) {
     let first = nth(numbers, place, 0);
     let second = nth(numbers, place, 1);
     let third = nth(numbers, place, 2);
     match sign {
-        b'?' => maybe_text(out, at, first, s, second as usize, third as usize),
-        b'^' => fixed_point(out, at, first, second, third, nth(numbers, place, 3)),
-        b'*' => value(out, at, first, second, third, s),
-        _ => writer::byte(out, at, sign),
+        b'?' => maybe_text(out, first, s, second as usize, third as usize),
+        b'^' => fixed_point(out, first, second, third, nth(numbers, place, 3)),
+        b'*' => value(out, first, second, third, s),
+        _ => out.byte(sign),
     }
 }
 
-fn maybe_number(out: &mut Out, at: usize, flag: u64, n: u64) -> usize {
+fn maybe_number(out: &mut Out, flag: u64, n: u64) {
     if flag == 0 {
-        return writer::byte(out, at, b'-');
+        out.byte(b'-');
+    } else {
+        out.decimal(n);
     }
-    writer::decimal(out, at, n)
 }
 
-fn maybe_text(out: &mut Out, at: usize, flag: u64, s: &[u8], start: usize, len: usize) -> usize {
+fn maybe_text(out: &mut Out, flag: u64, s: &[u8], start: usize, len: usize) {
     if flag == 0 {
-        return writer::byte(out, at, b'-');
+        out.byte(b'-');
+    } else {
+        out.byte(b'.');
+        out.text(s, start, len);
     }
-    let dot = writer::byte(out, at, b'.');
-    writer::text(out, dot, s, start, len)
 }
 
 // The letter of a byte order.
@@ -114,112 +99,106 @@ fn reason(ended: u64) -> u8 {
 }
 
 // `log:4`; a type that has no name is its number: `unk:5:4`.
-fn message_type(out: &mut Out, at: usize, its_type: u64, subtype: u64) -> usize {
+fn message_type(out: &mut Out, its_type: u64, subtype: u64) {
     match its_type {
-        0 => writer::labelled(out, at, b"log:", subtype),
-        1 => writer::labelled(out, at, b"app:", subtype),
-        2 => writer::labelled(out, at, b"net:", subtype),
-        3 => writer::labelled(out, at, b"ctl:", subtype),
+        0 => out.labelled(b"log:", subtype),
+        1 => out.labelled(b"app:", subtype),
+        2 => out.labelled(b"net:", subtype),
+        3 => out.labelled(b"ctl:", subtype),
         _ => {
-            let unknown = writer::labelled(out, at, b"unk:", its_type);
-            writer::marked(out, unknown, b':', subtype)
+            out.labelled(b"unk:", its_type);
+            out.marked(b':', subtype);
         }
     }
 }
 
 // `Bool`, `Str`, `Raw`, or the kind of a number.
-fn kind(out: &mut Out, at: usize, its_kind: u64, bits: u64) -> usize {
+fn kind(out: &mut Out, its_kind: u64, bits: u64) {
     match its_kind {
-        0 => writer::literal(out, at, b"Bool"),
-        6 => writer::literal(out, at, b"Str"),
-        7 => writer::literal(out, at, b"Raw"),
-        _ => number_kind(out, at, its_kind, bits),
+        0 => out.literal(b"Bool"),
+        6 => out.literal(b"Str"),
+        7 => out.literal(b"Raw"),
+        _ => number_kind(out, its_kind, bits),
     }
 }
 
 // A letter, an X where it is a fixed point number, and how many bits it has: `S8`, `UX32`, `F64`.
-fn number_kind(out: &mut Out, at: usize, its_kind: u64, bits: u64) -> usize {
+fn number_kind(out: &mut Out, its_kind: u64, bits: u64) {
     let letter = match its_kind {
         1 | 2 => b'S',
         3 | 4 => b'U',
-        _ => b'F',
+        _ => b'F'
     };
-    let lettered = writer::byte(out, at, letter);
+    out.byte(letter);
     match its_kind {
-        2 | 4 => writer::marked(out, lettered, b'X', bits),
-        _ => writer::decimal(out, lettered, bits),
+        2 | 4 => out.marked(b'X', bits),
+        _ => out.decimal(bits),
     }
 }
 
 // The quantization's pattern and the offset: `3f800000,i32:-5`.
-fn fixed_point(
-    out: &mut Out,
-    at: usize,
-    flag: u64,
-    quantization: u64,
-    bits: u64,
-    offset: u64,
-) -> usize {
+fn fixed_point(out: &mut Out, flag: u64, quantization: u64, bits: u64, offset: u64) {
     if flag == 0 {
-        return writer::byte(out, at, b'-');
+        out.byte(b'-');
+    } else {
+        out.hex_number(quantization, 8);
+        out.byte(b',');
+        signed(out, bits, offset);
     }
-    let done = writer::hex_number(out, at, quantization, 8);
-    let comma = writer::byte(out, done, b',');
-    signed(out, comma, bits, offset)
 }
 
 // A number with a sign, by two's complement of 64 bits: `i8:-5`.
-fn signed(out: &mut Out, at: usize, bits: u64, n: u64) -> usize {
-    let sized = writer::marked(out, at, b'i', bits);
-    let front = writer::byte(out, sized, b':');
-    writer::signed(out, front, n)
+fn signed(out: &mut Out, bits: u64, n: u64) {
+    out.marked(b'i', bits);
+    out.byte(b':');
+    out.decimal(n.cast_signed());
 }
 
 // A value, by which it is: a text, raw bytes, a float's pattern, 128 bits as two halves, or a number of up to 64 bits.
-fn value(out: &mut Out, at: usize, which: u64, first: u64, second: u64, s: &[u8]) -> usize {
+fn value(out: &mut Out, which: u64, first: u64, second: u64, s: &[u8]) {
     match which {
-        13 => text(out, at, b's', s, first as usize, second as usize),
-        14 => text(out, at, b'r', s, first as usize, second as usize),
-        5 => halves(out, at, b'u', first, second),
-        10 => halves(out, at, b'i', first, second),
-        11 => float(out, at, 32, first, 8),
-        12 => float(out, at, 64, first, 16),
-        _ => whole_number(out, at, which, first),
+        13 => text(out, b's', s, first as usize, second as usize),
+        14 => text(out, b'r', s, first as usize, second as usize),
+        5 => halves(out, b'u', first, second),
+        10 => halves(out, b'i', first, second),
+        11 => float(out, 32, first, 8),
+        12 => float(out, 64, first, 16),
+        _ => whole_number(out, which, first),
     }
 }
 
 // `s:TEXT`
-fn text(out: &mut Out, at: usize, letter: u8, s: &[u8], start: usize, len: usize) -> usize {
-    let kind = writer::byte(out, at, letter);
-    let front = writer::byte(out, kind, b':');
-    writer::text(out, front, s, start, len)
+fn text(out: &mut Out, letter: u8, s: &[u8], start: usize, len: usize) {
+    out.byte(letter);
+    out.byte(b':');
+    out.text(s, start, len);
 }
 
 // `u128:` and 16 digits for each half.
-fn halves(out: &mut Out, at: usize, letter: u8, high: u64, low: u64) -> usize {
-    let sized = writer::marked(out, at, letter, 128);
-    let front = writer::byte(out, sized, b':');
-    let done = writer::hex_number(out, front, high, 16);
-    writer::hex_number(out, done, low, 16)
+fn halves(out: &mut Out, letter: u8, high: u64, low: u64) {
+    out.marked(letter, 128u8);
+    out.byte(b':');
+    out.hex_number(high, 16);
+    out.hex_number(low, 16);
 }
 
 // `f32:` and the pattern.
-fn float(out: &mut Out, at: usize, bits: u64, n: u64, digits: usize) -> usize {
-    let sized = writer::marked(out, at, b'f', bits);
-    let front = writer::byte(out, sized, b':');
-    writer::hex_number(out, front, n, digits)
+fn float(out: &mut Out, bits: u64, n: u64, digits: usize) {
+    out.marked(b'f', bits);
+    out.byte(b':');
+    out.hex_number(n, digits);
 }
 
 // A bool, 0; or a number of 8 to 64 bits, 1 to 4 without a sign and 6 to 9 with one: `b:1`, `u8:5`.
-fn whole_number(out: &mut Out, at: usize, which: u64, n: u64) -> usize {
+fn whole_number(out: &mut Out, which: u64, n: u64) {
     if which == 0 {
-        return writer::labelled(out, at, b"b:", n);
+        out.labelled(b"b:", n);
+    } else if which < 5 {
+        out.marked(b'u', width(which));
+        out.marked(b':', n);
+    } else {
+        signed(out, width(which - 5), n);
     }
-    if which < 5 {
-        let sized = writer::marked(out, at, b'u', width(which));
-        return writer::marked(out, sized, b':', n);
-    }
-    signed(out, at, width(which - 5), n)
 }
 
 // How many bits the numbers have that count as 1 to 4.

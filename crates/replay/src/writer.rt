@@ -1,21 +1,27 @@
-// Writes into a buffer, of which the first `at` bytes wait to be written out. Each function takes `at` and answers the new one. Where the
-// buffer is full it is written out first, so an answer may be longer than the buffer.
-use itoa::Buffer;
+// A buffer that is written out whenever it is full, so an answer may be longer than it.
+ghost use Rattle.std.specs.Prelude.{◌≡◌, ◌≤◌};
+
+use itoa::{Buffer, Integer};
 use std::io;
 use std::io::{Stdout, Write};
+use wire::{Reason, Stop};
 
-// The buffer, and where it is written out to. The error of the first write that failed is kept, and nothing is written out from there on.
+// The buffer, of which the first `at` bytes wait to be written out, and where to. The error of the first write that failed is kept, and nothing is
+// written out from there on.
 #[derive(Drop)]
 pub struct Out {
     waiting: [u8; 65536],
+    at: usize,
     to: Stdout,
     error: Option<io::Error>,
+    ghost room: { at ≤ 65536 },
 }
 
 impl Out {
     pub fn new(to: Stdout) -> Out {
         Out {
             waiting: [0; 65536],
+            at: 0,
             to,
             error: None,
         }
@@ -28,63 +34,95 @@ impl Out {
             None => Ok(()),
         }
     }
-}
 
-// Writes out what waits. Answers that nothing does.
-pub fn flush(out: &mut Out, at: usize) -> usize {
-    if at <= 65536 && out.error.is_none() {
-        match out.to.write_all(&out.waiting[..at]) {
-            Ok(()) => {}
-            Err(error) => out.error = Some(error),
+    // Writes out what waits.
+    pub fn flush(&mut self)
+        ensures { self.new.at ≡ 0 }
+    {
+        if self.error.is_none() {
+            if let Err(error) = self.to.write_all(&self.waiting[..self.at]) {
+                self.error = Some(error);
+            }
+        }
+        self.at = 0;
+    }
+
+    pub fn byte(&mut self, b: u8) {
+        if 65536 <= self.at {
+            self.flush();
+        }
+        self.waiting[self.at] = b;
+        self.at += 1;
+    }
+
+    pub fn literal(&mut self, text: &[u8]) {
+        for b in text {
+            self.byte(*b);
         }
     }
-    0
-}
 
-pub fn byte(out: &mut Out, at: usize, b: u8) -> usize {
-    if at < 65536 {
-        out.waiting[at] = b;
-        return at + 1;
+    // A number in decimal, with a `-` before it where it is negative.
+    pub fn decimal<I: Integer>(&mut self, n: I) {
+        let mut spelled = Buffer::new();
+        self.literal(spelled.format(n).as_bytes());
     }
-    flush(out, at);
-    out.waiting[0] = b;
-    1
-}
 
-pub fn literal(out: &mut Out, at: usize, text: &[u8]) -> usize {
-    let mut next = at;
-    let mut i = 0;
-    while i < text.len() {
-        next = byte(out, next, text[i]);
-        i += 1;
+    // A character and a number in decimal.
+    pub fn marked<I: Integer>(&mut self, mark: u8, n: I) {
+        self.byte(mark);
+        self.decimal(n);
     }
-    next
-}
 
-pub fn decimal(out: &mut Out, at: usize, n: u64) -> usize {
-    let mut spelled = Buffer::new();
-    literal(out, at, spelled.format(n).as_bytes())
-}
-
-// A number in decimal by two's complement, with a `-` before it where it is negative.
-pub fn signed(out: &mut Out, at: usize, n: u64) -> usize {
-    if n < 9223372036854775808 {
-        return decimal(out, at, n);
+    // A label and a number in decimal.
+    pub fn labelled<I: Integer>(&mut self, label: &[u8], n: I) {
+        self.literal(label);
+        self.decimal(n);
     }
-    let minus = byte(out, at, b'-');
-    decimal(out, minus, n.wrapping_neg())
-}
 
-// A character and a number in decimal.
-pub fn marked(out: &mut Out, at: usize, mark: u8, n: u64) -> usize {
-    let next = byte(out, at, mark);
-    decimal(out, next, n)
-}
+    // A number in hex, with zeros in front up to `width` digits (16 at most).
+    pub fn hex_number(&mut self, n: u64, width: usize) {
+        for behind in (0..hex_len(n).max(width).min(16)).rev() {
+            self.byte(hex_digit(n >> (4 * behind)));
+        }
+    }
 
-// A label and a number in decimal.
-pub fn labelled(out: &mut Out, at: usize, label: &[u8], n: u64) -> usize {
-    let next = literal(out, at, label);
-    decimal(out, next, n)
+    // The `len` bytes at `start` in hex, two digits each. What lies behind the end is left out.
+    pub fn hex_bytes(&mut self, s: &[u8], start: usize, len: usize) {
+        for b in part(s, start, len) {
+            self.byte(hex_digit(u64::from(*b / 16)));
+            self.byte(hex_digit(u64::from(*b)));
+        }
+    }
+
+    // A part of the bytes as TEXT: in hex, and where it stands.
+    pub fn text(&mut self, s: &[u8], start: usize, len: usize) {
+        self.hex_bytes(s, start, len);
+        self.marked(b'@', start);
+        self.marked(b'+', len);
+    }
+
+    // The front of an answer with a value: how many bytes it used.
+    pub fn used(&mut self, n: usize) {
+        self.labelled(b"0 used=", n);
+    }
+
+    // The answer where bytes are missing: how many more are asked for.
+    pub fn need(&mut self, n: usize) {
+        self.labelled(b"2 ", n);
+    }
+
+    // The answer where a message cannot be read: why.
+    pub fn hickup(&mut self, reason: Reason) {
+        self.labelled(b"3 ", reason.number());
+    }
+
+    // The answer of a call that may say either.
+    pub fn stopped(&mut self, why: Stop) {
+        match why {
+            Stop::Need(n) => self.need(n),
+            Stop::Hickup(reason) => self.hickup(reason),
+        }
+    }
 }
 
 // How many hex digits a number takes: 1 at least.
@@ -102,53 +140,8 @@ fn hex_digit(n: u64) -> u8 {
     if d < 10 { b'0' + d } else { b'a' - 10 + d }
 }
 
-// A number in hex, with zeros in front up to `width` digits (16 at most).
-pub fn hex_number(out: &mut Out, at: usize, n: u64, width: usize) -> usize {
-    let mut next = at;
-    let mut left = hex_len(n).max(width).min(16);
-    while 0 < left {
-        left -= 1;
-        next = byte(out, next, hex_digit(n >> (4 * left)));
-    }
-    next
-}
-
-// The `len` bytes at `start` in hex, two digits each. What lies behind the end is left out.
-pub fn hex_bytes(out: &mut Out, at: usize, s: &[u8], start: usize, len: usize) -> usize {
-    let mut next = at;
-    let mut i = start;
-    let mut left = len;
-    while 0 < left && i < s.len() {
-        next = byte(out, next, hex_digit(u64::from(s[i] / 16)));
-        next = byte(out, next, hex_digit(u64::from(s[i])));
-        i += 1;
-        left -= 1;
-    }
-    next
-}
-
-// A part of the bytes as TEXT: in hex, and where it stands.
-pub fn text(out: &mut Out, at: usize, s: &[u8], start: usize, len: usize) -> usize {
-    let shown = hex_bytes(out, at, s, start, len);
-    let placed = marked(out, shown, b'@', start as u64);
-    marked(out, placed, b'+', len as u64)
-}
-
-pub fn bad_request(out: &mut Out, at: usize) -> usize {
-    literal(out, at, b"bad request")
-}
-
-// The front of an answer with a value: how many bytes it used.
-pub fn used(out: &mut Out, at: usize, n: usize) -> usize {
-    labelled(out, at, b"0 used=", n as u64)
-}
-
-// The answer where bytes are missing: how many more are asked for.
-pub fn need(out: &mut Out, at: usize, n: usize) -> usize {
-    labelled(out, at, b"2 ", n as u64)
-}
-
-// The answer where a message cannot be read: why.
-pub fn hickup(out: &mut Out, at: usize, reason: u8) -> usize {
-    labelled(out, at, b"3 ", reason as u64)
+// The `len` bytes at `start`, without those that lie behind the end.
+fn part(s: &[u8], start: usize, len: usize) -> &[u8] {
+    let rest = s.get(start..).unwrap_or(&[]);
+    rest.get(..len).unwrap_or(rest)
 }

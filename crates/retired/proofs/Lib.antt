@@ -6,6 +6,5 @@ pub mod Standing
 pub mod Cutting
 pub mod Rewriting
 pub mod Spelled
-pub mod Determined
 pub mod Sign
 pub mod Examples

@@ -5,10 +5,11 @@ use mathlib.Core.List.{List}
 use lib.ListN.{length}
 use Rattle.retired.specs.Rewrite.{rewrite_of}
 use Rattle.retired.specs.declared.Cut.{Cut}
-use Rattle.retired.specs.declared.Rewritten.{Rewritten}
+use Rattle.filter.specs.declared.BadFilter.{BadFilter}
+use Rattle.std.specs.Prelude.{Result, Ok}
 use Rattle.retired.proofs.Rewriting.{kept_within}
 
-module _ (f : List ℕ) (r : Rewritten) (c : Cut) (e : r ≡ rewrite_of f) (q : r ≡ Rewritten.Kept c) where
+module _ (f : List ℕ) (r : Result Cut BadFilter) (c : Cut) (e : r ≡ rewrite_of f) (q : r ≡ Ok c) where
   pub front_fits : c.kept ≤ length f
   front_fits = (kept_within f c (sym e ∙ q)).0
 

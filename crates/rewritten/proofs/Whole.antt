@@ -1,9 +1,8 @@
 -- The bytes that were gathered are rewritten as all that the reader had: those that fill the buffer are bad, and so are any that are more.
 use Rattle.std.proofs.Common.{◌≡◌, ℕ, ◌<◌, ◌≤◌, List, Option, None, Some, Result, Ok, Err, IfSome, OnOk, length, take, refl, sym, ap, ◌∙◌, inl, inr, arith, length-take-le}
 use Rattle.filter.specs.Filter.{filter_of}
-use Rattle.filter.specs.declared.FilterAns.{FilterAns}
+use Rattle.filter.specs.declared.FilterError.{FilterError}
 use Rattle.retired.specs.Rewrite.{rewrite_of}
-use Rattle.retired.specs.declared.Rewritten.{Rewritten}
 use Rattle.retired.proofs.Standing.{Sorted, sort, long_is_bad}
 use Rattle.rewritten.specs.Gathered.{Held}
 use Rattle.rewritten.specs.Written.{written, written_of, IsOf}
@@ -13,13 +12,13 @@ pub on_ok : {A E : Type 0} (r : Result A E) {P Q : Type 0} → (P → Q) → OnO
 on_ok (Ok x) f p = f p
 on_ok (Err e) f p = tt
 
-long_is_left : (f : List ℕ) → 803 < length f → rewrite_of f ≡ Rewritten.Bad
+long_is_left : (f : List ℕ) → 803 < length f → rewrite_of f ≡ Err (record {})
 long_is_left f h = by (sort f)
   where
-    bad : filter_of f ≡ FilterAns.Bad
+    bad : filter_of f ≡ (Err FilterError.Bad)
     bad = long_is_bad f h
 
-    by : Sorted f → rewrite_of f ≡ Rewritten.Bad
+    by : Sorted f → rewrite_of f ≡ Err (record {})
     by (Sorted.plain k g) = let e = sym g ∙ bad in let z : ◌≡◌ {A = ℕ} 0 1 = cc in absurd (omega arith)
     by (Sorted.aged k g) = let e = sym g ∙ bad in let z : ◌≡◌ {A = ℕ} 0 1 = cc in absurd (omega arith)
     by (Sorted.breaks g o r) = r

@@ -10,8 +10,7 @@ ghost use Rattle.std.specs.Io.KnownBytes.{Appends};
 ghost use Rattle.rewritten.specs.Gathered.{Gathered};
 ghost use Rattle.rewritten.specs.Written.{line_of, context_line_of, removed_lines, Written, written, unreadable_line, Grow, IsOf};
 
-use filter::{Counts, OptIdCount};
-use retired::Rewritten;
+use filter::Counts;
 use std::io;
 use std::io::{Read, Write};
 
@@ -22,26 +21,19 @@ fn room() -> [u8; 1024]
     [0; 1024]
 }
 
-// What was read: so many bytes, or that a read failed.
-#[derive(Clone, Copy)]
-enum Input {
-    Bytes(usize),
-    Failed,
-}
-
-// Reads until the input ends, the buffer is full or a read fails. A read that fails is not the end of the input.
-fn gather<R: Read>(input: &mut R, buf: &mut [u8]) -> Input
+// Reads until the input ends, the buffer is full or a read fails: how many bytes were read. A read that fails is not the end of the input.
+fn gather<R: Read>(input: &mut R, buf: &mut [u8]) -> io::Result<usize>
     ensures { Gathered (R.remaining input.old) buf.new result }
 {
     let mut done = 0;
     while done < buf.len() {
         match input.read(&mut buf[done..]) {
-            Ok(0) => return Input::Bytes(done),
+            Ok(0) => return Ok(done),
             Ok(n) => done += n,
-            Err(_) => return Input::Failed,
+            Err(error) => return Err(error),
         }
     }
-    Input::Bytes(done)
+    Ok(done)
 }
 
 // A signed number in decimal.
@@ -67,12 +59,12 @@ fn line<W: Write>(lines: &mut W, at: u64, name: &[u8], n: i64) -> io::Result<()>
 }
 
 // The context count, if it was there.
-fn context_line<W: Write>(lines: &mut W, at: u64, contexts: OptIdCount) -> io::Result<()>
+fn context_line<W: Write>(lines: &mut W, at: u64, contexts: Option<i64>) -> io::Result<()>
     ensures { OnOk result (Appends (W.contents lines.old) (W.contents lines.new) (context_line_of at contexts)) }
 {
     match contexts {
-        OptIdCount::Present(n) => line(lines, at, b"context", n),
-        OptIdCount::Absent => Ok(()),
+        Some(n) => line(lines, at, b"context", n),
+        None => Ok(()),
     }
 }
 
@@ -85,11 +77,11 @@ fn removed<W: Write>(lines: &mut W, kept: usize, counts: Counts) -> io::Result<(
     let apps = counts.apps;
     let contexts = counts.contexts;
     match apps {
-        OptIdCount::Present(n) => {
+        Some(n) => {
             line(lines, at, b"app", n)?;
             context_line(lines, at + 11, contexts)
         }
-        OptIdCount::Absent => context_line(lines, at, contexts),
+        None => context_line(lines, at, contexts),
     }
 }
 
@@ -98,13 +90,13 @@ fn show<W: Write, L: Write>(f: &[u8], bytes: &mut W, lines: &mut L) -> io::Resul
     ensures { OnOk result (Grow (W.contents bytes.old) (W.contents bytes.new) (L.contents lines.old) (L.contents lines.new) (written f.now)) }
 {
     match retired::without_counts(f) {
-        Rewritten::Kept(cut) => {
+        Ok(cut) => {
             let kept = cut.kept;
             let counts = cut.counts;
             bytes.write_all(&f[..kept])?;
             removed(lines, kept, counts)
         }
-        Rewritten::Bad => lines.write_all(b"refused: bad filter\n"),
+        Err(_) => lines.write_all(b"refused: bad filter\n"),
     }
 }
 
@@ -143,7 +135,7 @@ pub fn rewrite<R: Read, W: Write, L: Write>(
 {
     let mut buf = room();
     match gather(input, &mut buf) {
-        Input::Bytes(n) => show_first(&buf, n, bytes, lines),
-        Input::Failed => unreadable(lines),
+        Ok(n) => show_first(&buf, n, bytes, lines),
+        Err(_) => unreadable(lines),
     }
 }

@@ -17,10 +17,8 @@ use Rattle.wire.specs.declared.Ended.{Ended}
 use Rattle.wire.specs.declared.Text.{Text}
 use Rattle.wire.proofs.Step.{then_done, then_need, then_hickup, then_broken, here_is, ret_is}
 use Rattle.strings.specs.Utf8.{valid_up_to_of}
-use Rattle.headertype.specs.declared.OptText.{OptText}
 use Rattle.dlt.specs.TypeInfoWord.{float_bytes, type_info_of_lem}
 use Rattle.dlt.specs.declared.FloatWidth.{FloatWidth}
-use Rattle.dlt.specs.declared.OptPoint.{OptPoint}
 use Rattle.dlt.specs.declared.TypeInfo.{TypeInfo}
 use Rattle.dlt.specs.declared.TypeInfoKind.{TypeInfoKind}
 use Rattle.dlt.specs.declared.TypeLength.{TypeLength}
@@ -31,6 +29,7 @@ use Rattle.values.specs.declared.Numeric.{Numeric}
 use Rattle.arguments.specs.Argument.{decoded, made}
 use Rattle.arguments.proofs.Placed.{Holds, Gives, then_gives}
 use Rattle.signals.specs.Signal.{utf8, fixed_width, content, in_data_of, closed, whole, signal}
+use Rattle.std.specs.Prelude.{None}
 
 -- a string among the values is one that ended at its size, and its bytes end at a position
 abbrev AtSize : Value → ℕ → Type 0
@@ -136,14 +135,14 @@ abbrev ArgumentAtSize : Argument → ℕ → Type 0
 ArgumentAtSize a b = AtSize a.value b
 
 module _ (big : Bool) (info : TypeInfo) (start : ℕ) where
-  made_gives : (v : Value) (s : List ℕ) (at : ℕ) → AtSize v at → Holds ArgumentAtSize (made start info OptText.Absent OptText.Absent OptPoint.Absent v s at)
+  made_gives : (v : Value) (s : List ℕ) (at : ℕ) → AtSize v at → Holds ArgumentAtSize (made start info None None None v s at)
   made_gives v s at h = rw (then_done here _ s at (here_is s at), ret_is _ s at) h
 
-  behind_gives : Gives ArgumentAtSize (content big info.kind >>= (λ v. made start info OptText.Absent OptText.Absent OptPoint.Absent v))
+  behind_gives : Gives ArgumentAtSize (content big info.kind >>= (λ v. made start info None None None v))
   behind_gives = record { holds = λ s at. go s at (content big info.kind s at) refl ((content_gives big info.kind).holds s at) }
     where
       go : (s : List ℕ) (at : ℕ) (x : Ans Value) → content big info.kind s at ≡ x → Holds AtSize (content big info.kind s at)
-          → Holds ArgumentAtSize ((content big info.kind >>= (λ v. made start info OptText.Absent OptText.Absent OptPoint.Absent v)) s at)
+          → Holds ArgumentAtSize ((content big info.kind >>= (λ v. made start info None None None v)) s at)
       go s at (done v b) e h = rw (then_done (content big info.kind) _ s at e) (made_gives v s b (subst (Holds AtSize) e h))
       go s at (need n) e h = rw (then_need (content big info.kind) _ s at e) tt
       go s at (hickup r) e h = rw (then_hickup (content big info.kind) _ s at e) tt

@@ -1,4 +1,4 @@
--- The lemmas of this crate's answer enums and of its rules by clauses, for `search` (wire's Reading.antt says how).
+-- The lemmas of this crate's rules by clauses, for `search` (wire's Reading.antt says how).
 use Prim.Native.Nat.{ℕ, ◌+◌, ◌-◌, ◌≤◌, ◌<◌}
 use native.Mathlib.Omega.{arith}
 use mathlib.Core.Path.{◌≡◌, refl, sym, ap, ◌∙◌}
@@ -9,48 +9,32 @@ use lib.Dec.{ltb}
 use borrow.Author.Tests.{le-leb, lt-leb, lt-ltb, le-ltb}
 use Rattle.wire.specs.Answer.{Ans, Parser}
 use Rattle.wire.specs.Answer.Ans.{done, need, hickup}
-use Rattle.wire.specs.Parser.{◌>>=◌, refuse, choose}
+use Rattle.wire.specs.Parser.{refuse, choose}
 use Rattle.wire.specs.Run.{range}
 use Rattle.wire.specs.declared.Ended.{Ended}
 use Rattle.wire.proofs.Step.{told, then_done, then_hickup, having_done, having_need, choose_true, choose_false}
-use Rattle.wire.proofs.Reading.{by_done, by_need, by_hickup}
+use Rattle.wire.specs.declared.Got.{Got}
+use Rattle.wire.specs.declared.Stop.{Stop}
+use Rattle.wire.specs.declared.Reason.{Reason}
+use Rattle.dlt.specs.contracts.ReasonFromNoTypeInfo as ReasonFromNoTypeInfo
+use Rattle.std.specs.Prelude.{IsErr, IsErrAnd, Result, Ok, Err}
+use Rattle.std.specs.Result.{result_from_control_flow}
+use Rattle.std.proofs.Common.{Continue, Break}
+use Rattle.std.proofs.lemmas.Bool.{false≢true}
 use Rattle.strings.specs.Utf8.{valid_up_to_of, least}
 use Rattle.dlt.specs.TypeInfoWord.{float_bytes, type_info_of_lem}
 use Rattle.dlt.specs.declared.FloatWidth.{FloatWidth}
 use Rattle.dlt.specs.declared.TypeInfoKind.{TypeInfoKind}
 use Rattle.dlt.specs.declared.TypeInfo.{TypeInfo}
-use Rattle.dlt.specs.declared.Decoded.{Decoded}
+use Rattle.dlt.specs.declared.NoTypeInfo.{NoTypeInfo}
 use Rattle.dlt.specs.declared.Value.{Value}
 use Rattle.dlt.specs.declared.Argument.{Argument}
-use Rattle.values.specs.Value.{value, value_ans}
-use Rattle.values.specs.declared.Numeric.{Numeric}
-use Rattle.values.specs.declared.GotValue.{GotValue}
-use Rattle.values.specs.declared.ValueAns.{ValueAns}
-use Rattle.arguments.specs.Argument.{decoded, argument_ans}
-use Rattle.arguments.specs.declared.GotArgument.{GotArgument}
-use Rattle.arguments.specs.declared.ArgumentAns.{ArgumentAns}
+use Rattle.arguments.specs.Argument.{decoded}
 use Rattle.arguments.proofs.Reading.{accepted_is, refused_is, arguments-reading}
-use Rattle.signals.specs.Signal.{utf8, fixed_width, content, in_data_of, closed, whole, signal, content_ans, signal_ans}
-use Rattle.signals.specs.declared.ContentAns.{ContentAns}
-use Rattle.signals.specs.declared.SignalAns.{SignalAns}
-
--- ---- the answer enums
-module _ {B : Type 0} (p : Parser Value) (k : Value → Parser B) (s : List ℕ) (at : ℕ) where
-  pub step_content : (r : ContentAns) (g : GotValue) (x : Ans B) → content_ans r ≡ p s at → r ≡ ContentAns.Done g → x ≡ k g.v s g.next → x ≡ (p >>= k) s at
-  step_content r g x e q f = by_done content_ans p k s at e q refl f
-
-  pub need_content : (r : ContentAns) (n : ℕ) → content_ans r ≡ p s at → r ≡ ContentAns.Need n → need n ≡ (p >>= k) s at
-  need_content r n e q = by_need content_ans p k s at e q refl
-
-  pub hickup_content : (r : ContentAns) (n : ℕ) → content_ans r ≡ p s at → r ≡ ContentAns.Hickup n → hickup n ≡ (p >>= k) s at
-  hickup_content r n e q = by_hickup content_ans p k s at e q refl
-
-module _ {B : Type 0} (p : Parser Argument) (k : Argument → Parser B) (s : List ℕ) (at : ℕ) where
-  pub step_signal : (r : SignalAns) (g : GotArgument) (x : Ans B) → signal_ans r ≡ p s at → r ≡ SignalAns.Done g → x ≡ k g.v s g.next → x ≡ (p >>= k) s at
-  step_signal r g x e q f = by_done signal_ans p k s at e q refl f
-
-  pub hickup_signal : (r : SignalAns) (n : ℕ) → signal_ans r ≡ p s at → r ≡ SignalAns.Hickup n → hickup n ≡ (p >>= k) s at
-  hickup_signal r n e q = by_hickup signal_ans p k s at e q refl
+use Rattle.signals.specs.Signals.{construct_ans}
+use Rattle.signals.specs.declared.Constructed.{Constructed}
+use Rattle.signals.specs.Signal.{utf8, fixed_width, content, in_data_of, closed, whole, signal}
+use Rattle.wire.specs.Answers.{stop_ans, reason_ans, reason_number}
 
 -- ---- a string whose content must be UTF-8: l is what is left, v what `valid_up_to` found
 module _ (n : ℕ) (s : List ℕ) (at l : ℕ) (is-left : l ≡ length s - at) where
@@ -87,34 +71,35 @@ module _ (w : FloatWidth) (s : List ℕ) (at n l : ℕ) (d : n ≡ float_bytes w
 pub content_at : (big : Bool) (s : List ℕ) (at : ℕ) (x : Ans Value) (e e' : TypeInfoKind) → e ≡ e' → x ≡ content big e' s at → x ≡ content big e s at
 content_at big s at x e e' q f = rw q f
 
--- ---- a number that was read, as it is
-module _ (big : Bool) (sort : Numeric) (s : List ℕ) (at : ℕ) (r : ValueAns) (e : value_ans r ≡ value big sort s at) where
-  pub number_is : (g : GotValue) → r ≡ ValueAns.Done g → done g.v g.next ≡ value big sort s at
-  number_is g q = sym (told value_ans e q)
-
-  pub number_needs : (n : ℕ) → r ≡ ValueAns.Need n → need n ≡ value big sort s at
-  number_needs n q = sym (told value_ans e q)
-
 -- ---- one signal: d is what a call gave for the word
-module _ (big : Bool) (word : ℕ) (s : List ℕ) (at : ℕ) (d : Decoded) (e : d ≡ type_info_of_lem word) where
-  pub signal_refused : d ≡ Decoded.Refused → hickup 2 ≡ signal big word s at
+module _ (big : Bool) (word : ℕ) (s : List ℕ) (at : ℕ) (d : Result TypeInfo NoTypeInfo) (e : d ≡ type_info_of_lem word) (c : _) (t : d ≡ result_from_control_flow c) where
+  pub signal_refused : (n : _) (x : Ans Argument) → c ≡ Break n → x ≡ hickup 2 → x ≡ signal big word s at
   unfolding signal
-  signal_refused q = sym (then_hickup _ _ s at (sym (refused_is s at d _ e q)))
+  signal_refused n x q h = h ∙ sym (then_hickup _ _ s at (sym (refused_is s at d _ e c t n (hickup 2) q refl)))
 
-  module _ (i : TypeInfo) (q : d ≡ Decoded.Accepted i) where
+  module _ (i : TypeInfo) (q : c ≡ Continue i) where
     accepted : signal big word s at ≡ closed (in_data_of big i s at)
     unfolding signal whole
-    accepted = then_done (decoded (type_info_of_lem word)) _ s at (sym (accepted_is s at d _ e i q))
+    accepted = then_done (decoded (type_info_of_lem word)) _ s at (sym (accepted_is s at d _ e c t i q))
 
-    module _ (r : ArgumentAns) (f : argument_ans r ≡ in_data_of big i s at) where
-      pub signal_done : (g : GotArgument) → r ≡ ArgumentAns.Done g → done g.v g.next ≡ signal big word s at
-      signal_done g p = sym (accepted ∙ ap closed (told argument_ans f p))
+    module _ (r : Result (Got Argument) Stop) (f : stop_ans r ≡ in_data_of big i s at) where
+      pub signal_done : (g : Got Argument) → r ≡ Ok g → done g.v g.next ≡ signal big word s at
+      signal_done g p = sym (accepted ∙ ap closed (told stop_ans f p))
 
-      pub signal_short : (n : ℕ) → r ≡ ArgumentAns.Need n → hickup 5 ≡ signal big word s at
-      signal_short n p = sym (accepted ∙ ap closed (told argument_ans f p))
+      pub signal_short : (e : Stop) (n : ℕ) → r ≡ Err e → e ≡ Stop.Need n → hickup 5 ≡ signal big word s at
+      signal_short e n p z = sym (accepted ∙ ap closed (told stop_ans f (p ∙ ap Err z)))
 
-      pub signal_hickup : (n : ℕ) → r ≡ ArgumentAns.Hickup n → hickup n ≡ signal big word s at
-      signal_hickup n p = sym (accepted ∙ ap closed (told argument_ans f p))
+      pub signal_hickup : (e : Stop) (m : Reason) → r ≡ Err e → e ≡ Stop.Hickup m → hickup (reason_number m) ≡ signal big word s at
+      signal_hickup e m p z = sym (accepted ∙ ap closed (told stop_ans f (p ∙ ap Err z)))
+
+-- what `?` hands on of a word that is no type
+pub no_type_reason : (r : Result (Got Argument) Reason) (n : NoTypeInfo) → IsErr r × IsErrAnd r ((ReasonFromNoTypeInfo.TheImpl.from_gives-value).it n) → reason_ans r ≡ hickup 2
+no_type_reason (Ok g) n e = absurd (false≢true e.0)
+no_type_reason (Err m) n e = ap (λ (m : Reason). reason_ans {A = Argument} (Err m)) e.1
+
+pub constructed_stops : (r : Result Constructed Reason) (n : Reason) → IsErr r × IsErrAnd r (λ (m : Reason). m ≡ n) → construct_ans r ≡ hickup (reason_number n)
+constructed_stops (Ok g) n e = absurd (false≢true e.0)
+constructed_stops (Err m) n e = ap (λ (m : Reason). construct_ans (Err m)) e.1
 
 -- ---- a test on two numbers
 module _ {A : Type 0} (p q : Parser A) (s : List ℕ) (at : ℕ) (x : Ans A) (m n : ℕ) where
@@ -124,10 +109,8 @@ module _ {A : Type 0} (p q : Parser A) (s : List ℕ) (at : ℕ) (x : Ans A) (m 
   pub if_ge : n ≤ m → x ≡ q s at → x ≡ choose (ltb m n) p q s at
   if_ge h f = f ∙ sym (choose_false p q s at (le-ltb m n h))
 
-pub ruleset contents = (arguments-reading, step_content, need_content, hickup_content, content_at, utf8_done, utf8_bad, utf8_need, fixed_refused, fixed_need)
+pub ruleset contents = (arguments-reading, content_at, utf8_done, utf8_bad, utf8_need, fixed_refused, fixed_need)
 
-pub ruleset signals-reading = (arguments-reading, step_signal, hickup_signal, if_lt, if_ge)
+pub ruleset signals-reading = (arguments-reading, if_lt, if_ge)
 
-pub ruleset one-signal = (signal_refused, signal_done, signal_short, signal_hickup)
-
-pub ruleset numbers = (number_is, number_needs)
+pub ruleset one-signal = (no_type_reason, signal_refused, signal_done, signal_short, signal_hickup)

@@ -21,7 +21,9 @@ use Rattle.wire.specs.Lawful.{Waits}
 use Rattle.wire.proofs.Laws.{of_two}
 use Rattle.wire.proofs.Step.{choose_true, choose_false, ret_is}
 use Rattle.dlt.specs.TypeInfoWord.{type_info_of_lem}
-use Rattle.dlt.specs.declared.Decoded.{Decoded}
+use Rattle.std.specs.Prelude.{Result, Ok, Err, Some, None}
+use Rattle.dlt.specs.declared.NoTypeInfo.{NoTypeInfo}
+use Rattle.dlt.specs.declared.TypeInfo.{TypeInfo}
 use Rattle.dlt.specs.declared.Argument.{Argument}
 use Rattle.arguments.specs.Argument.{decoded}
 use Rattle.cursor.specs.Row.{mapped, before, walk, handed}
@@ -30,7 +32,6 @@ use Rattle.cursor.proofs.Walks.{mapped_twice, more, more_is, next, next_is, goes
 use Rattle.signals.specs.Signal.{closed, whole, in_data_of, signal}
 use Rattle.signals.specs.Signals.{signals, constructed, listed, cursor, signal_turn, step_of, called, sized}
 use Rattle.signals.specs.declared.SignalCursor.{SignalCursor}
-use Rattle.signals.specs.declared.SignalTurn.{SignalTurn}
 
 -- the cursor behind a signal that ends at b
 abbrev behind : SignalCursor → ℕ → SignalCursor
@@ -43,9 +44,9 @@ module _ (words : List ℕ) (c : SignalCursor) (s : List ℕ) (at : ℕ) where
   turn_some : c.word < length words → mapped step_of (signal_turn words c s at) ≡ next (behind c) (there words c s at)
   unfolding signal_turn
   turn_some h = ap (mapped step_of) (choose_true _ _ s at (lt-ltb _ _ h))
-      ∙ next_is (there words c) (λ a b. SignalTurn.Item (record { argument = a; rest = behind c b })) step_of (behind c) (λ a b. refl) s at
+      ∙ next_is (there words c) (λ a b. Some (record { argument = a; rest = behind c b })) step_of (behind c) (λ a b. refl) s at
 
-  pub at_the_end : length words ≤ c.word → signal_turn words c s at ≡ done SignalTurn.End at
+  pub at_the_end : length words ≤ c.word → signal_turn words c s at ≡ done None at
   unfolding signal_turn
   at_the_end h = choose_false _ _ s at (le-ltb _ _ h) ∙ ret_is _ s at
 
@@ -129,9 +130,9 @@ signal_quiet : (big : Bool) (word : ℕ) → Quiet (signal big word)
 unfolding signal whole decoded
 signal_quiet big word = then_quiet (decoded (type_info_of_lem word)) (λ i. whole (in_data_of big i)) (known (type_info_of_lem word)) (λ i s at. shut (in_data_of big i s at))
   where
-    known : (d : Decoded) → Quiet (decoded d)
-    known (Decoded.Accepted i) s at w = w
-    known Decoded.Refused s at w = w
+    known : (d : Result TypeInfo NoTypeInfo) → Quiet (decoded d)
+    known (Ok i) s at w = w
+    known (Err r) s at w = w
 
     shut : (x : Ans Argument) → Waits (closed x) → ⊥
     shut (done a b) w = w

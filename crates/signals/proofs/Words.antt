@@ -29,9 +29,8 @@ module _ (big : Bool) (words s : List ℕ) (at i : ℕ) where
     unfolding constructed
     words_hickup h e = sym (then_hickup _ _ s 0 (whole ∙ first h ∙ then_hickup _ _ s at e))
 
-    pub words_done : i ≤ length words → length words ≤ i → done i at ≡ constructed big words s 0
+    pub words_done : length words ≤ i → done (length words) at ≡ constructed big words s 0
     unfolding constructed signals
-    words_done l h =
-        let e : i ≡ length words = omega arith in
+    words_done h =
         let z : signals big (drop i words) s at ≡ done tt at = ap (λ (l : List ℕ). signals big l s at) (drop_of_length-le words h) ∙ ret_is tt s at in
-        ap (λ (k : ℕ). done k at) e ∙ sym (then_done _ _ s 0 (whole ∙ z) ∙ ret_is _ s at)
+        sym (then_done _ _ s 0 (whole ∙ z) ∙ ret_is _ s at)

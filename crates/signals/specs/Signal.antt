@@ -1,5 +1,5 @@
 -- One argument from signal data: document 01, "`construct_arguments` differs", and Hickup reasons 2, 5, 6 and 7.
-use Rattle.std.specs.Prelude.{ℕ, ◌+◌, Bool, true, leb}
+use Rattle.std.specs.Prelude.{ℕ, ◌+◌, Bool, true, leb, None}
 use Rattle.wire.specs.Answer.{Ans, Parser}
 use Rattle.wire.specs.Answer.Ans.{done, need, hickup, broken}
 use Rattle.wire.specs.Parser.{pick, ret, here, refuse, having, ◌>>=◌}
@@ -7,19 +7,15 @@ use Rattle.wire.specs.Number.{number}
 use Rattle.wire.specs.Run.{range, bytes}
 use Rattle.wire.specs.declared.Ended.{Ended}
 use Rattle.strings.specs.Utf8.{valid_up_to_of}
-use Rattle.headertype.specs.declared.OptText.{OptText}
 use Rattle.dlt.specs.TypeInfoWord.{float_bytes, type_info_of_lem}
 use Rattle.dlt.specs.declared.FloatWidth.{FloatWidth}
 use Rattle.dlt.specs.declared.TypeInfoKind.{TypeInfoKind}
 use Rattle.dlt.specs.declared.TypeInfo.{TypeInfo}
-use Rattle.dlt.specs.declared.OptPoint.{OptPoint}
 use Rattle.dlt.specs.declared.Value.{Value}
 use Rattle.dlt.specs.declared.Argument.{Argument}
 use Rattle.values.specs.Value.{value}
 use Rattle.values.specs.declared.Numeric.{Numeric}
 use Rattle.arguments.specs.Argument.{decoded, made}
-use Rattle.signals.specs.declared.ContentAns.{ContentAns}
-use Rattle.signals.specs.declared.SignalAns.{SignalAns}
 
 -- a string's whole content must be UTF-8 and keeps its zero bytes, so it ends at its size: else Hickup 6
 unfoldable pub utf8 : ℕ → Parser Value
@@ -51,7 +47,7 @@ unfoldable pub in_data_of : Bool → TypeInfo → Parser Argument
 in_data_of big info = do
   start ← here
   v ← content big info.kind
-  made start info OptText.Absent OptText.Absent OptPoint.Absent v
+  made start info None None None v
 
 -- the data is whole, so what is too short is Hickup 5, and nothing is Incomplete
 abbrev pub closed : {A : Type 0} → Ans A → Ans A
@@ -68,13 +64,3 @@ unfoldable pub signal : Bool → ℕ → Parser Argument
 signal big word = do
   info ← decoded (type_info_of_lem word)
   whole (in_data_of big info)
-
--- the answers that the enums stand for
-abbrev pub content_ans : ContentAns → Ans Value
-content_ans (ContentAns.Done g) = done g.v g.next
-content_ans (ContentAns.Need n) = need n
-content_ans (ContentAns.Hickup r) = hickup r
-
-abbrev pub signal_ans : SignalAns → Ans Argument
-signal_ans (SignalAns.Done g) = done g.v g.next
-signal_ans (SignalAns.Hickup r) = hickup r

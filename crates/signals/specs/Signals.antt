@@ -1,16 +1,17 @@
 -- The arguments of a list of type info words, and a cursor over them: document 01, "`construct_arguments` differs", "Words that don't
 -- decode are Hickup 2 when reached", and "a cursor hands out one record per call".
-use Rattle.std.specs.Prelude.{ℕ, ◌+◌, Bool, List, [], ◌∷◌, length, get_or, ltb}
+use Rattle.std.specs.Prelude.{ℕ, ◌+◌, Bool, List, [], ◌∷◌, length, get_or, ltb, Result, Ok, Err, Option, Some, None}
 use Rattle.wire.specs.Answer.{Ans, Parser}
 use Rattle.wire.specs.Answer.Ans.{done, hickup}
 use Rattle.wire.specs.Parser.{ret, here, choose, ◌>>=◌}
 use Rattle.dlt.specs.declared.Argument.{Argument}
 use Rattle.cursor.specs.Row.{Step, item, end, mapped}
 use Rattle.signals.specs.Signal.{signal}
-use Rattle.signals.specs.declared.ConstructAns.{ConstructAns}
+use Rattle.wire.specs.Answers.{reason_number}
+use Rattle.wire.specs.declared.Reason.{Reason}
+use Rattle.signals.specs.declared.Constructed.{Constructed}
 use Rattle.signals.specs.declared.SignalCursor.{SignalCursor}
-use Rattle.signals.specs.declared.SignalTurn.{SignalTurn}
-use Rattle.signals.specs.declared.SignalTurnAns.{SignalTurnAns}
+use Rattle.signals.specs.declared.HandedSignal.{HandedSignal}
 
 -- a signal for each word, passed
 unfoldable pub signals : Bool → List ℕ → Parser Unit
@@ -37,26 +38,22 @@ abbrev pub cursor : ℕ → ℕ → Bool → SignalCursor
 cursor at word big = record { at = at; word = word; big = big }
 
 -- one call of the cursor, asked at its position: the signal of its word while there is one
-unfoldable pub signal_turn : List ℕ → SignalCursor → Parser SignalTurn
+unfoldable pub signal_turn : List ℕ → SignalCursor → Parser (Option HandedSignal)
 signal_turn words c = choose (ltb c.word (length words)) (do
   a ← signal c.big (get_or words c.word 0)
   next ← here
-  ret (SignalTurn.Item (record { argument = a; rest = cursor next (c.word + 1) c.big }))) (ret SignalTurn.End)
+  ret (Some (record { argument = a; rest = cursor next (c.word + 1) c.big }))) (ret None)
 
--- the answers that the enums stand for
-abbrev pub construct_ans : ConstructAns → Ans ℕ
-construct_ans (ConstructAns.Done g) = done g.count g.used
-construct_ans (ConstructAns.Hickup r) = hickup r
-
-abbrev pub signal_turn_ans : SignalTurnAns → Ans SignalTurn
-signal_turn_ans (SignalTurnAns.Done g) = done g.v g.next
-signal_turn_ans (SignalTurnAns.Hickup r) = hickup r
+-- the answer that a result stands for
+abbrev pub construct_ans : Result Constructed Reason → Ans ℕ
+construct_ans (Ok g) = done g.count g.used
+construct_ans (Err r) = hickup (reason_number r)
 
 -- ---- what the theorems of proofs/Row.antt say
 -- a call over these words and bytes (cursor's specs/Row.antt says what its calls hand out)
-abbrev pub step_of : SignalTurn → Step Argument SignalCursor
-step_of (SignalTurn.Item h) = item h.argument h.rest
-step_of SignalTurn.End = end
+abbrev pub step_of : Option HandedSignal → Step Argument SignalCursor
+step_of (Some h) = item h.argument h.rest
+step_of None = end
 
 abbrev pub called : List ℕ → List ℕ → SignalCursor → Ans (Step Argument SignalCursor)
 called words s c = mapped step_of (signal_turn words c s c.at)

@@ -5,40 +5,26 @@
 ghost use Rattle.std.specs.Prelude.{◌≡◌};
 ghost use Rattle.dlt.specs.declared.TypeInfoKind.{TypeInfoKind};
 ghost use Rattle.values.specs.Value.{value};
-ghost use Rattle.arguments.specs.Argument.{argument_ans};
-ghost use Rattle.signals.specs.Signal.{utf8, content, in_data_of, signal, fixed_width, content_ans, signal_ans};
-ghost use Rattle.signals.specs.Signals.{constructed, signal_turn, construct_ans, signal_turn_ans};
+ghost use Rattle.signals.specs.Signal.{utf8, content, in_data_of, signal, fixed_width};
+ghost use Rattle.signals.specs.Signals.{constructed, signal_turn, construct_ans};
+ghost use Rattle.wire.specs.Answers.{reason_ans, stop_ans};
 
-use arguments::{ArgumentAns, GotArgument};
-use dlt::{Argument, Decoded, FloatWidth, OptPoint, OptText, TypeInfo, TypeInfoKind, Value};
-use values::{GotValue, Numeric, ValueAns};
-use wire::{Ended, Range, RangeAns, Text, U8Ans, U16Ans};
-
-#[derive(Clone, Copy)]
-pub enum ContentAns {
-    Done(GotValue),
-    Need(usize),
-    Hickup(u8),
-}
-
-#[derive(Clone, Copy)]
-pub enum SignalAns {
-    Done(GotArgument),
-    Hickup(u8),
-}
+use dlt::{Argument, FloatWidth, TypeInfo, TypeInfoKind, Value};
+use values::Numeric;
+use wire::{Ended, Got, Range, Reason, Stop, Text};
 
 // A string of a size, all of which must be UTF-8: it ends at its size, zero bytes and all.
-fn whole_string(s: &[u8], at: usize, size: u16) -> ContentAns
-    ensures { content_ans result ≡ utf8 size s.now at }
+fn whole_string(s: &[u8], at: usize, size: u16) -> Result<Got<Value>, Stop>
+    ensures { stop_ans result ≡ utf8 size s.now at }
 {
     let n = size as usize;
     let rest = wire::left(s, at);
     if rest < n {
-        return ContentAns::Need(n - rest);
+        return Err(Stop::Need(n - rest));
     }
     let valid = strings::valid_up_to(s, at, n);
     if n <= valid {
-        ContentAns::Done(GotValue {
+        Ok(Got {
             v: Value::StringVal(Text {
                 place: Range { start: at, len: n },
                 ended: Ended::Size,
@@ -46,78 +32,64 @@ fn whole_string(s: &[u8], at: usize, size: u16) -> ContentAns
             next: at + n,
         })
     } else {
-        ContentAns::Hickup(6)
+        Err(Stop::Hickup(Reason::SignalText))
     }
 }
 
 // A string: its size, and its content.
-fn string_content(s: &[u8], at: usize, big: bool) -> ContentAns
-    ensures { content_ans result ≡ content big TypeInfoKind.StringType s.now at }
+fn string_content(s: &[u8], at: usize, big: bool) -> Result<Got<Value>, Stop>
+    ensures { stop_ans result ≡ content big TypeInfoKind.StringType s.now at }
 {
-    match wire::parse_u16(s, at, big) {
-        U16Ans::Done(size) => whole_string(s, size.next, size.v),
-        U16Ans::Need(no_size) => ContentAns::Need(no_size),
-    }
+    let size = wire::parse_u16(s, at, big)?;
+    whole_string(s, size.next, size.v)
 }
 
 // Raw bytes: their size, and the bytes.
-fn raw_content(s: &[u8], at: usize, big: bool) -> ContentAns
-    ensures { content_ans result ≡ content big TypeInfoKind.Raw s.now at }
+fn raw_content(s: &[u8], at: usize, big: bool) -> Result<Got<Value>, Stop>
+    ensures { stop_ans result ≡ content big TypeInfoKind.Raw s.now at }
 {
-    let size = match wire::parse_u16(s, at, big) {
-        U16Ans::Done(size) => size,
-        U16Ans::Need(no_size) => return ContentAns::Need(no_size),
-    };
-    match wire::take(s, size.next, size.v as usize) {
-        RangeAns::Done(run) => {
-            let range = run.v;
-            ContentAns::Done(GotValue {
-                v: Value::Raw(range),
-                next: run.next,
-            })
-        }
-        RangeAns::Need(no_run) => ContentAns::Need(no_run),
-    }
+    let size = wire::parse_u16(s, at, big)?;
+    let run = wire::take(s, size.next, size.v as usize)?;
+    let range = run.v;
+    Ok(Got {
+        v: Value::Raw(range),
+        next: run.next,
+    })
 }
 
 // A bool.
-fn bool_content(s: &[u8], at: usize, big: bool) -> ContentAns
-    ensures { content_ans result ≡ content big TypeInfoKind.Bool s.now at }
+fn bool_content(s: &[u8], at: usize, big: bool) -> Result<Got<Value>, Stop>
+    ensures { stop_ans result ≡ content big TypeInfoKind.Bool s.now at }
 {
-    match wire::parse_u8(s, at) {
-        U8Ans::Done(byte) => ContentAns::Done(GotValue {
-            v: Value::Bool(byte.v),
-            next: byte.next,
-        }),
-        U8Ans::Need(no_byte) => ContentAns::Need(no_byte),
-    }
+    let byte = wire::parse_u8(s, at)?;
+    Ok(Got {
+        v: Value::Bool(byte.v),
+        next: byte.next,
+    })
 }
 
 // An integer or a float.
-fn number_content(s: &[u8], at: usize, sort: Numeric, big: bool) -> ContentAns
-    ensures { content_ans result ≡ value big sort s.now at }
+fn number_content(s: &[u8], at: usize, sort: Numeric, big: bool) -> Result<Got<Value>, Stop>
+    ensures { stop_ans result ≡ value big sort s.now at }
 {
-    match values::number_value(s, at, sort, big) {
-        ValueAns::Done(number) => ContentAns::Done(number),
-        ValueAns::Need(no_number) => ContentAns::Need(no_number),
-    }
+    Ok(values::number_value(s, at, sort, big)?)
 }
 
 // A fixed-point kind gets no value, whatever stands there.
-fn fixed_point_content(s: &[u8], at: usize, width: FloatWidth) -> ContentAns
-    ensures { content_ans result ≡ fixed_width width s.now at }
+fn fixed_point_content(s: &[u8], at: usize, width: FloatWidth) -> Result<Got<Value>, Stop>
+    ensures { stop_ans result ≡ fixed_width width s.now at }
 {
     let n = width.width_in_bytes();
     let rest = wire::left(s, at);
     if rest < n {
-        return ContentAns::Need(n - rest);
+        return Err(Stop::Need(n - rest));
     }
-    ContentAns::Hickup(7)
+    Err(Stop::Hickup(Reason::SignalFixedPoint))
 }
 
 // The value, by its kind.
-fn content_of(s: &[u8], at: usize, kind: TypeInfoKind, big: bool) -> ContentAns
-    ensures { content_ans result ≡ content big kind s.now at }
+fn content_of(s: &[u8], at: usize, kind: TypeInfoKind, big: bool) -> Result<Got<Value>, Stop>
+    ensures { stop_ans result ≡ content big kind s.now at }
 {
     match kind {
         TypeInfoKind::StringType => string_content(s, at, big),
@@ -132,22 +104,18 @@ fn content_of(s: &[u8], at: usize, kind: TypeInfoKind, big: bool) -> ContentAns
 }
 
 // The argument of a type info, without names.
-fn in_data(s: &[u8], at: usize, info: TypeInfo, big: bool) -> ArgumentAns
-    ensures { argument_ans result ≡ in_data_of big info s.now at }
+fn in_data(s: &[u8], at: usize, info: TypeInfo, big: bool) -> Result<Got<Argument>, Stop>
+    ensures { stop_ans result ≡ in_data_of big info s.now at }
 {
     let kind = info.kind;
-    let content = match content_of(s, at, kind, big) {
-        ContentAns::Done(content) => content,
-        ContentAns::Need(no_content) => return ArgumentAns::Need(no_content),
-        ContentAns::Hickup(bad_content) => return ArgumentAns::Hickup(bad_content),
-    };
+    let content = content_of(s, at, kind, big)?;
     let value = content.v;
-    ArgumentAns::Done(GotArgument {
+    Ok(Got {
         v: Argument {
             type_info: info,
-            name: OptText::Absent,
-            unit: OptText::Absent,
-            fixed_point: OptPoint::Absent,
+            name: None,
+            unit: None,
+            fixed_point: None,
             value,
             start: at,
             end: content.next,
@@ -157,16 +125,14 @@ fn in_data(s: &[u8], at: usize, info: TypeInfo, big: bool) -> ArgumentAns
 }
 
 // One signal: data that is too short is Hickup 5.
-fn signal_at(s: &[u8], at: usize, word: u32, big: bool) -> SignalAns
-    ensures { signal_ans result ≡ signal big word s.now at }
+fn signal_at(s: &[u8], at: usize, word: u32, big: bool) -> Result<Got<Argument>, Reason>
+    ensures { reason_ans result ≡ signal big word s.now at }
 {
-    match TypeInfo::try_from(word) {
-        Decoded::Accepted(info) => match in_data(s, at, info, big) {
-            ArgumentAns::Done(item) => SignalAns::Done(item),
-            ArgumentAns::Need(no_item) => SignalAns::Hickup(5),
-            ArgumentAns::Hickup(bad_item) => SignalAns::Hickup(bad_item),
-        },
-        Decoded::Refused => SignalAns::Hickup(2),
+    let info = TypeInfo::try_from(word)?;
+    match in_data(s, at, info, big) {
+        Ok(item) => Ok(item),
+        Err(Stop::Need(_)) => Err(Reason::SignalShort),
+        Err(Stop::Hickup(reason)) => Err(reason),
     }
 }
 
@@ -177,27 +143,18 @@ pub struct Constructed {
     pub used: usize,
 }
 
-#[derive(Clone, Copy)]
-pub enum ConstructAns {
-    Done(Constructed),
-    Hickup(u8),
-}
-
 // An argument for each word.
-pub fn construct_arguments(big: bool, words: &[u32], data: &[u8]) -> ConstructAns
+pub fn construct_arguments(big: bool, words: &[u32], data: &[u8]) -> Result<Constructed, Reason>
     ensures { construct_ans result ≡ constructed big words.now «data».now 0 }
 {
-    let mut at: usize = 0;
-    let mut i: usize = 0;
-    while i < words.len() {
-        let item = match signal_at(data, at, words[i], big) {
-            SignalAns::Done(item) => item,
-            SignalAns::Hickup(bad_item) => return ConstructAns::Hickup(bad_item),
-        };
-        at = item.next;
-        i += 1;
+    let mut at = 0;
+    for word in words {
+        at = signal_at(data, at, *word, big)?.next;
     }
-    ConstructAns::Done(Constructed { count: i, used: at })
+    Ok(Constructed {
+        count: words.len(),
+        used: at,
+    })
 }
 
 // Where the next signal stands, and the number of its word.
@@ -214,38 +171,17 @@ pub struct HandedSignal {
     pub rest: SignalCursor,
 }
 
-#[derive(Clone, Copy)]
-pub enum SignalTurn {
-    Item(HandedSignal),
-    End,
-}
-
-#[derive(Clone, Copy)]
-pub struct GotSignalTurn {
-    pub v: SignalTurn,
-    pub next: usize,
-}
-
-#[derive(Clone, Copy)]
-pub enum SignalTurnAns {
-    Done(GotSignalTurn),
-    Hickup(u8),
-}
-
 impl SignalCursor {
     // The next argument and the cursor behind it, or the end.
-    pub fn next(self, words: &[u32], data: &[u8]) -> SignalTurnAns
-        ensures { signal_turn_ans result ≡ signal_turn words.now self «data».now self.at }
+    pub fn next(self, words: &[u32], data: &[u8]) -> Result<Got<Option<HandedSignal>>, Reason>
+        ensures { reason_ans result ≡ signal_turn words.now self «data».now self.at }
     {
         let i = self.word;
         if i < words.len() {
-            let item = match signal_at(data, self.at, words[i], self.big) {
-                SignalAns::Done(item) => item,
-                SignalAns::Hickup(bad_item) => return SignalTurnAns::Hickup(bad_item),
-            };
+            let item = signal_at(data, self.at, words[i], self.big)?;
             let argument = item.v;
-            SignalTurnAns::Done(GotSignalTurn {
-                v: SignalTurn::Item(HandedSignal {
+            Ok(Got {
+                v: Some(HandedSignal {
                     argument,
                     rest: SignalCursor {
                         at: item.next,
@@ -256,8 +192,8 @@ impl SignalCursor {
                 next: item.next,
             })
         } else {
-            SignalTurnAns::Done(GotSignalTurn {
-                v: SignalTurn::End,
+            Ok(Got {
+                v: None,
                 next: self.at,
             })
         }

@@ -1,3 +1,2 @@
 pub mod Complement
 pub mod Reading
-pub mod Determined

@@ -7,33 +7,25 @@ use mathlib.Core.List.{List}
 use lib.ListN.{length}
 use lib.Dec.{eqb}
 use borrow.Author.Tests.{eq-eqb, ne_eqb}
-use Rattle.wire.specs.Answer.{Ans, Parser}
+use Rattle.wire.specs.Answer.{Ans}
 use Rattle.wire.specs.Answer.Ans.{done, need, hickup}
 use Rattle.wire.specs.Parser.{refuse, choose, ◌>>=◌}
-use Rattle.wire.specs.Run.{text_ans}
-use Rattle.wire.specs.declared.TextAns.{TextAns}
-use Rattle.wire.specs.declared.GotText.{GotText}
 use Rattle.wire.proofs.Step.{asking_done, fixed_done, fixed_need}
-use Rattle.wire.proofs.Reading.{by_done, by_need, by_hickup}
+use Rattle.wire.proofs.Reading.{took, lacked, reading}
+use Rattle.wire.specs.declared.Got.{Got}
+use Rattle.wire.specs.declared.Need.{Need}
+use Rattle.wire.specs.declared.Text.{Text}
+use Rattle.std.specs.Prelude.{Result, Err}
+use Rattle.std.specs.Result.{result_from_control_flow}
+use Rattle.std.proofs.Common.{Continue, Break}
 use Rattle.wire.specs.Number.{number}
 use Rattle.strings.specs.Text.{text, text_need}
 use Rattle.headertype.specs.Bits.{flag, either}
 use Rattle.arguments.specs.Argument.{argument}
-use Rattle.names.proofs.Reading.{names-reading}
-use Rattle.skim.specs.Skim.{passed, run, skim_text_of, skim_bool_of, skim_string_of, skim_raw_of, bytes_of, skim_float_of, skim_number_of, skim_bits, skim_word_of, skim_ans}
-use Rattle.skim.specs.declared.SkimAns.{SkimAns}
+use Rattle.skim.specs.Skim.{passed, run, skim_text_of, skim_bool_of, skim_string_of, skim_raw_of, bytes_of, skim_float_of, skim_number_of, skim_bits, skim_word_of}
 use Rattle.skim.proofs.Same.{text_skims, skim_same}
 use Rattle.skim.proofs.Words.{word_same}
-
-module _ {B : Type 0} (p : Parser Unit) (k : Unit → Parser B) (s : List ℕ) (at : ℕ) (r : SkimAns) where
-  pub step_skim : (b : ℕ) (x : Ans B) → skim_ans r ≡ p s at → r ≡ SkimAns.Done b → x ≡ k tt s b → x ≡ (p >>= k) s at
-  step_skim b x e q f = by_done skim_ans p k s at e q refl f
-
-  pub need_skim : (n : ℕ) → skim_ans r ≡ p s at → r ≡ SkimAns.Need n → need n ≡ (p >>= k) s at
-  need_skim n e q = by_need skim_ans p k s at e q refl
-
-  pub hickup_skim : (n : ℕ) → skim_ans r ≡ p s at → r ≡ SkimAns.Hickup n → hickup n ≡ (p >>= k) s at
-  hickup_skim n e q = by_hickup skim_ans p k s at e q refl
+use Rattle.wire.specs.Answers.{need_ans}
 
 -- ---- l is what `left` gave
 module _ (n : ℕ) (s : List ℕ) (at l : ℕ) (is-left : l ≡ length s - at) where
@@ -50,12 +42,12 @@ module _ (n : ℕ) (s : List ℕ) (at l : ℕ) (is-left : l ≡ length s - at) w
   text_there h = sym (asking_done n (text_need n) _ s at (rw (← is-left) h))
 
 -- ---- r is what the string reader gave
-module _ (n : ℕ) (s : List ℕ) (at : ℕ) (r : TextAns) (e : text_ans r ≡ text n s at) where
-  pub text_read : (g : GotText) → r ≡ TextAns.Done g → done tt g.next ≡ skim_text_of n s at
-  text_read g q = ap passed (ap text_ans (sym q) ∙ e) ∙ text_skims n s at
+module _ (n : ℕ) (s : List ℕ) (at : ℕ) (r : Result (Got Text) Need) (c : _) (e : need_ans r ≡ text n s at) (t : r ≡ result_from_control_flow c) where
+  pub text_read : (g : Got Text) → c ≡ Continue g → done tt g.next ≡ skim_text_of n s at
+  text_read g q = ap passed (took (text n s at) r c e t g q) ∙ text_skims n s at
 
-  pub text_lacks : (m : ℕ) → r ≡ TextAns.Need m → need m ≡ skim_text_of n s at
-  text_lacks m q = ap passed (ap text_ans (sym q) ∙ e) ∙ text_skims n s at
+  pub text_lacks : (m : _) (x : Ans Unit) → c ≡ Break m → x ≡ need_ans {A = Unit} (Err m.0) → x ≡ skim_text_of n s at
+  text_lacks m x q h = h ∙ ap passed (lacked (text n s at) r c e t m q) ∙ text_skims n s at
 
 either_one : (a b : Bool) → b ≡ true → either a b ≡ true
 either_one true b e = refl
@@ -103,4 +95,4 @@ module _ (big : Bool) (word : ℕ) (s : List ℕ) (at : ℕ) where
 pub by_word : (big : Bool) (s : List ℕ) (at : ℕ) (x : Ans Unit) → x ≡ (number big 4 >>= (λ w. skim_word_of big w)) s at → x ≡ passed (argument big s at)
 by_word big s at x e = e ∙ sym (word_same big s at) ∙ sym (skim_same big s at)
 
-pub ruleset skim-reading = (names-reading, by_word, step_skim, need_skim, hickup_skim, run_done, run_need, text_there, text_read, text_lacks, one_of, neither, eq-eqb, ne_eqb, word_bool, word_number, word_float, word_string, word_raw)
+pub ruleset skim-reading = (reading, by_word, run_done, run_need, text_there, text_read, text_lacks, one_of, neither, eq-eqb, ne_eqb, word_bool, word_number, word_float, word_string, word_raw)

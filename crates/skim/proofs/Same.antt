@@ -12,18 +12,19 @@ use Rattle.wire.specs.Parser.{pick, follow, ret, here, choose, asking, having, f
 use Rattle.wire.specs.Number.{number, numeric}
 use Rattle.wire.specs.Run.{bytes}
 use Rattle.strings.specs.Text.{text, ended_text, text_need}
-use Rattle.headertype.specs.declared.OptText.{OptText}
 use Rattle.dlt.specs.TypeInfoWord.{wide_length, length_bytes, float_bytes}
 use Rattle.dlt.specs.declared.FloatWidth.{FloatWidth}
 use Rattle.dlt.specs.declared.TypeInfo.{TypeInfo}
 use Rattle.dlt.specs.declared.TypeInfoKind.{TypeInfoKind}
-use Rattle.dlt.specs.declared.OptPoint.{OptPoint}
 use Rattle.dlt.specs.declared.Value.{Value}
 use Rattle.values.specs.Value.{value, uint, sint, fint, unsigned_of, signed_of, float_of, offset, offset_of, fixed_point_of}
 use Rattle.values.specs.declared.Numeric.{Numeric}
 use Rattle.names.specs.Names.{name, maybe_name, texts, name_and_unit_of, maybe_names}
 use Rattle.arguments.specs.Argument.{type_info_of, made, plain, scaled, boolean, content, sized, kinded, argument}
 use Rattle.skim.specs.Skim.{passed, run, skim_text_of, skim_name_of, skim_texts_of, skim_names_of, skim_plain_of, skim_point_of, skim_scaled_of, skim_bool_of, skim_string_of, skim_raw_of, skim_kind, skim_argument_of}
+use Rattle.std.specs.Prelude.{Option, Some, None}
+use Rattle.dlt.specs.declared.FixedPoint.{FixedPoint}
+use Rattle.wire.specs.declared.Text.{Text}
 
 -- q is p with nothing kept
 abbrev pub Skims : {A : Type 0} → Parser A → Parser Unit → Type 0
@@ -106,9 +107,9 @@ name_skims big = read (number big 2) (λ n. text n) (λ n. skim_text_of n) text_
 maybe_name_skims : (info big : Bool) → Skims (maybe_name info big) (skim_name_of info big)
 unfolding maybe_name skim_name_of
 maybe_name_skims info big =
-    both info (name big >>= (λ v. ret (OptText.Present v))) (ret OptText.Absent) (number big 2 >>= (λ n. skim_text_of n)) (ret tt)
-    (last (name big) (number big 2 >>= (λ n. skim_text_of n)) (λ v. ret (OptText.Present v)) (name_skims big) (λ v. gave (OptText.Present v)))
-    (gave OptText.Absent)
+    both info (name big >>= (λ v. ret (Some v))) (ret None) (number big 2 >>= (λ n. skim_text_of n)) (ret tt)
+    (last (name big) (number big 2 >>= (λ n. skim_text_of n)) (λ v. ret (Some v)) (name_skims big) (λ v. gave (Some v)))
+    (gave None)
 
 texts_skims : (a b : ℕ) → Skims (texts a b) (skim_texts_of a b)
 unfolding texts skim_texts_of
@@ -139,7 +140,7 @@ point_skims big w =
     behind (number big 4) (run 4) _ (run (float_bytes w)) (number_skims big 4)
     (λ n. last (numeric (offset_of w) big (float_bytes w)) (run (float_bytes w)) _ (numeric_skims (offset_of w) big (float_bytes w)) (λ u. gave _))
 
-made_skims : (start : ℕ) (info : TypeInfo) (a b : OptText) (p : OptPoint) (v : Value) → Skims (made start info a b p v) (ret tt)
+made_skims : (start : ℕ) (info : TypeInfo) (a b : Option Text) (p : Option FixedPoint) (v : Value) → Skims (made start info a b p v) (ret tt)
 unfolding ◌>>=◌ here ret
 made_skims start info a b p v s at = refl
 
@@ -148,7 +149,7 @@ plain_skims : (big : Bool) (start : ℕ) (info : TypeInfo) (n : Numeric) → Ski
 unfolding plain skim_plain_of
 plain_skims big start info n =
     behind (maybe_names info.has_variable_info big) (skim_names_of info.has_variable_info big) _ (run (width n)) (maybe_names_skims info.has_variable_info big)
-    (λ a. last (value big n) (run (width n)) _ (value_skims big n) (λ v. made_skims start info a.name a.unit OptPoint.Absent v))
+    (λ a. last (value big n) (run (width n)) _ (value_skims big n) (λ v. made_skims start info a.name a.unit None v))
 
 wide_same : (w : FloatWidth) → length_bytes (wide_length w) ≡ float_bytes w
 wide_same FloatWidth.Width32 = refl
@@ -162,13 +163,13 @@ scaled_skims big start info w n e =
     (maybe_names_skims info.has_variable_info big)
     (λ a.
     behind (fixed_point_of big w) (skim_point_of (float_bytes w)) _ (run (float_bytes w)) (point_skims big w)
-    (λ p. last (value big n) (run (float_bytes w)) _ (λ s at. value_skims big n s at ∙ ap (λ (k : ℕ). run k s at) e) (λ v. made_skims start info a.name a.unit (OptPoint.Present p) v)))
+    (λ p. last (value big n) (run (float_bytes w)) _ (λ s at. value_skims big n s at ∙ ap (λ (k : ℕ). run k s at) e) (λ v. made_skims start info a.name a.unit (Some p) v)))
 
 bool_skims : (big : Bool) (start : ℕ) (info : TypeInfo) → Skims (boolean big start info) (skim_bool_of info.has_variable_info big)
 unfolding boolean skim_bool_of
 bool_skims big start info =
     behind (maybe_name info.has_variable_info big) (skim_name_of info.has_variable_info big) _ (run 1) (maybe_name_skims info.has_variable_info big)
-    (λ a. last (number true 1) (run 1) _ (number_skims true 1) (λ v. made_skims start info a OptText.Absent OptPoint.Absent (Value.Bool v)))
+    (λ a. last (number true 1) (run 1) _ (number_skims true 1) (λ v. made_skims start info a None None (Value.Bool v)))
 
 -- a value of n bytes: raw, or a string
 raw_content_lem : (n : ℕ) → Skims (content true n) (run n)
@@ -185,7 +186,7 @@ string_skims big start info =
     read (number big 2) _ _
     (λ n.
     behind (maybe_name info.has_variable_info big) (skim_name_of info.has_variable_info big) _ (skim_text_of n) (maybe_name_skims info.has_variable_info big)
-    (λ a. last (content false n) (skim_text_of n) _ (text_content n) (λ v. made_skims start info a OptText.Absent OptPoint.Absent v)))
+    (λ a. last (content false n) (skim_text_of n) _ (text_content n) (λ v. made_skims start info a None None v)))
 
 raw_skims : (big : Bool) (start : ℕ) (info : TypeInfo) → Skims (sized true big start info) (skim_raw_of info.has_variable_info big)
 unfolding sized skim_raw_of
@@ -193,7 +194,7 @@ raw_skims big start info =
     read (number big 2) _ _
     (λ n.
     behind (maybe_name info.has_variable_info big) (skim_name_of info.has_variable_info big) _ (run n) (maybe_name_skims info.has_variable_info big)
-    (λ a. last (content true n) (run n) _ (raw_content_lem n) (λ v. made_skims start info a OptText.Absent OptPoint.Absent v)))
+    (λ a. last (content true n) (run n) _ (raw_content_lem n) (λ v. made_skims start info a None None v)))
 
 kind_skims : (big : Bool) (start : ℕ) (info : TypeInfo) (k : TypeInfoKind) → Skims (kinded big start info k) (skim_kind big info.has_variable_info k)
 unfolding kinded skim_kind

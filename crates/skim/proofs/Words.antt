@@ -15,14 +15,14 @@ use Rattle.dlt.specs.TypeInfoWord.{type_length_of, float_width_of, sized, float_
 use Rattle.dlt.specs.declared.TypeLength.{TypeLength}
 use Rattle.dlt.specs.declared.FloatWidth.{FloatWidth}
 use Rattle.dlt.specs.declared.TypeInfoKind.{TypeInfoKind}
-use Rattle.dlt.specs.declared.OptKind.{OptKind}
 use Rattle.arguments.specs.Argument.{type_info_of, decoded}
 use Rattle.skim.specs.Skim.{skim_plain_of, skim_scaled_of, skim_bool_of, skim_string_of, skim_raw_of, skim_kind, skim_argument_of, bytes_of, skim_whole_of, skim_float_of, skim_fixed_of, skim_number_of, skim_bits, skim_word_of}
+use Rattle.std.specs.Prelude.{Option, Some, None}
 
 -- what follows, by the kind that a word has, if it has one
-abbrev kindly : Bool → Bool → OptKind → Parser Unit
-kindly big info (OptKind.Present k) = skim_kind big info k
-kindly big info OptKind.Absent = refuse 2
+abbrev kindly : Bool → Bool → Option TypeInfoKind → Parser Unit
+kindly big info (Some k) = skim_kind big info k
+kindly big info None = refuse 2
 
 -- a number over 5 is none of the lengths
 over : (n k : ℕ) → k < 6 → eqb (suc (suc (suc (suc (suc (suc n)))))) k ≡ false
@@ -80,7 +80,7 @@ module _ (big info : Bool) (s : List ℕ) (at : ℕ) where
 
   -- the tests of the kind's bits, by their outcomes
   tests : (n : ℕ) (fixed a b c d e f : Bool)
-      → kindly big info (pick a (OptKind.Present TypeInfoKind.Bool) (pick b (signed_of n fixed) (pick c (unsigned_of n fixed) (pick d (float_of n) (pick e (OptKind.Present TypeInfoKind.StringType) (pick f (OptKind.Present TypeInfoKind.Raw) OptKind.Absent)))))) s at
+      → kindly big info (pick a (Some TypeInfoKind.Bool) (pick b (signed_of n fixed) (pick c (unsigned_of n fixed) (pick d (float_of n) (pick e (Some TypeInfoKind.StringType) (pick f (Some TypeInfoKind.Raw) None)))))) s at
       ≡ choose a (skim_bool_of info big) (choose (either b c) (skim_number_of info fixed (bytes_of n) big) (choose d (skim_float_of info (bytes_of n) big) (choose e (skim_string_of info big) (choose f (skim_raw_of info big) (refuse 2))))) s at
   unfolding choose skim_kind
   tests n fixed true b c d e f = refl
@@ -101,11 +101,11 @@ unfolding skim_word_of
 word_by big word s at = bits_by big (flag 2048 word) s at (word / 16 % 128) (word % 16) (flag 4096 word)
 
 -- a type info's kind, and what follows it
-goes_on : (big : Bool) (word : ℕ) (k : OptKind) (s : List ℕ) (at : ℕ)
+goes_on : (big : Bool) (word : ℕ) (k : Option TypeInfoKind) (s : List ℕ) (at : ℕ)
     → follow (decoded_ans (decoded_of word k) at) (λ i. skim_kind big i.has_variable_info i.kind) s ≡ kindly big (flag 2048 word) k s at
 unfolding refuse
-goes_on big word (OptKind.Present k) s at = refl
-goes_on big word OptKind.Absent s at = refl
+goes_on big word (Some k) s at = refl
+goes_on big word None s at = refl
 
 after : (big : Bool) (x : Ans ℕ) (s : List ℕ)
     → follow (follow x (λ w. decoded (type_info_of_lem w)) s) (λ i. skim_kind big i.has_variable_info i.kind) s ≡ follow x (λ w. skim_word_of big w) s

@@ -9,7 +9,6 @@ use Rattle.headertype.specs.Bits.{flag, either}
 use Rattle.dlt.specs.TypeInfoWord.{length_bytes, float_bytes}
 use Rattle.dlt.specs.declared.TypeInfoKind.{TypeInfoKind}
 use Rattle.arguments.specs.Argument.{type_info_of}
-use Rattle.skim.specs.declared.SkimAns.{SkimAns}
 
 -- an answer with its value not kept
 abbrev pub passed : {A : Type 0} → Ans A → Ans Unit
@@ -119,9 +118,3 @@ skim_bits big info fixed n bits =
 
 unfoldable pub skim_word_of : Bool → ℕ → Parser Unit
 skim_word_of big word = skim_bits big (flag 2048 word) (flag 4096 word) (bytes_of (word % 16)) (word / 16 % 128)
-
--- the answer that the enum stands for
-abbrev pub skim_ans : SkimAns → Ans Unit
-skim_ans (SkimAns.Done b) = done tt b
-skim_ans (SkimAns.Need n) = need n
-skim_ans (SkimAns.Hickup r) = hickup r

@@ -12,7 +12,6 @@ use Rattle.wire.specs.Lawful.{Waits, Kept}
 use Rattle.wire.proofs.Laws.{of_two}
 use Rattle.wire.proofs.Step.{then_need}
 use Rattle.mark.specs.First.{pattern, find}
-use Rattle.mark.specs.declared.Found.{Found}
 use Rattle.mark.proofs.Laws.{found_within, find_stable}
 use Rattle.headertype.specs.HeaderType.{overall_length_of}
 use Rattle.headers.proofs.Inverse.{split}
@@ -26,6 +25,7 @@ use Rattle.confined.proofs.Laws.{confined_stable, confined_honest}
 use Rattle.walk.specs.Walk.{Step, Wait, Take, Fair}
 use Rattle.step.specs.Step.{skipped_to_of, length_of, heard, asked}
 use Rattle.step.proofs.Place.{placed, no_pattern}
+use Rattle.std.specs.Prelude.{Option, Some, None}
 
 -- two steps that are one
 same_take : {k k' l l' i i' : ℕ} → ◌≡◌ {A = Step ℕ ℕ} (Take k l i) (Take k' l' i') → (k ≡ k') × (l ≡ l')
@@ -43,9 +43,9 @@ decides a b broken e w = w
 
 module _ (f : List ℕ) (filter : Filter) (s : List ℕ) where
   -- a decided answer rests on a pattern, on headers that stay, and stays itself
-  at_pattern : (x : Found) → find pattern s 0 ≡ x → (Waits (confined_message_of f filter true s 0) → ⊥) → find pattern s 0 ≡ Found.At (skipped_to_of (find pattern s 0))
-  at_pattern (Found.At i) e w = rw e
-  at_pattern Found.Nothing e w = absurd (w (no_pattern f filter s e))
+  at_pattern : (x : Option ℕ) → find pattern s 0 ≡ x → (Waits (confined_message_of f filter true s 0) → ⊥) → find pattern s 0 ≡ Some (skipped_to_of (find pattern s 0))
+  at_pattern (Some i) e w = rw e
+  at_pattern None e w = absurd (w (no_pattern f filter s e))
 
   read_again : (t : List ℕ) (x : Ans Headers) → routed f filter true s 0 ≡ x → (Waits (confined_message_of f filter true s 0) → ⊥) → Kept x (length t) (routed f filter true (s ++ t) 0)
       → routed f filter true (s ++ t) 0 ≡ x

@@ -21,9 +21,7 @@ use Rattle.messageinfo.specs.MessageInfo.{message_type_by, control_of}
 use Rattle.headers.specs.Standard.{endian_of, header_of_lem}
 use Rattle.headers.specs.Extended.{extended_of_lem}
 use Rattle.filter.specs.declared.Filter.{Filter}
-use Rattle.filtering.specs.declared.OptExtended.{OptExtended}
-use Rattle.cursor.specs.Cursor.{arguments, pass_ans}
-use Rattle.cursor.specs.declared.PassAns.{PassAns}
+use Rattle.cursor.specs.Cursor.{arguments}
 use Rattle.payload.specs.Payload.{is_verbose_of, count_of, is_network_of, is_control_of, control_type_of, list_of, verbose, control, plain, payload}
 use Rattle.payload.specs.declared.PayloadContent.{PayloadContent}
 use Rattle.parse.specs.Message.{routed, body, passed, item, item_of, is_big_of, headers_of_lem}
@@ -41,17 +39,22 @@ use Rattle.verdict.proofs.Said.{outline_passed, verdict_said}
 use Rattle.walk.specs.Walk.{Step, Wait, Take}
 use Rattle.step.specs.Step.{item_kind, filtered_kind, hickup_kind, unrecoverable_kind, overrun_kind, heard, asked}
 use Rattle.step.specs.Glance.{heard_list, heard_run, heard_extended, heard_outline}
+use Rattle.std.specs.Prelude.{Option, Some, None, Result, Ok, Err}
+use Rattle.messageinfo.specs.declared.ExtendedHeader.{ExtendedHeader}
+use Rattle.wire.specs.Answers.{passed_ans}
+use Rattle.wire.specs.declared.Stop.{Stop}
+use Rattle.wire.specs.declared.Reason.{Reason}
 
 -- ---- the code's cases
-module _ (k l : ℕ) (big : Bool) (n : ℕ) (s : List ℕ) (at : ℕ) (a : PassAns) (d : pass_ans a ≡ arguments big n s at) where
-  pub list_done : (m : ℕ) → a ≡ PassAns.Done m → Take k l 0 ≡ heard_list k l (arguments big n s at)
-  list_done m q = ap (heard_list k l) (sym (told pass_ans d q))
+module _ (k l : ℕ) (big : Bool) (n : ℕ) (s : List ℕ) (at : ℕ) (a : Result ℕ Stop) (d : passed_ans a ≡ arguments big n s at) where
+  pub list_done : (m : ℕ) → a ≡ Ok m → Take k l 0 ≡ heard_list k l (arguments big n s at)
+  list_done m q = ap (heard_list k l) (sym (told passed_ans d q))
 
-  pub list_need : (m : ℕ) → a ≡ PassAns.Need m → Take k l 4 ≡ heard_list k l (arguments big n s at)
-  list_need m q = ap (heard_list k l) (sym (told pass_ans d q))
+  pub list_need : (e : Stop) (m : ℕ) → a ≡ Err e → e ≡ Stop.Need m → Take k l 4 ≡ heard_list k l (arguments big n s at)
+  list_need e m q z = ap (heard_list k l) (sym (told passed_ans d (q ∙ ap Err z)))
 
-  pub list_hickup : (m : ℕ) → a ≡ PassAns.Hickup m → Take k 4 2 ≡ heard_list k l (arguments big n s at)
-  list_hickup m q = ap (heard_list k l) (sym (told pass_ans d q))
+  pub list_hickup : (e : Stop) (m : Reason) → a ≡ Err e → e ≡ Stop.Hickup m → Take k 4 2 ≡ heard_list k l (arguments big n s at)
+  list_hickup e m q z = ap (heard_list k l) (sym (told passed_ans d (q ∙ ap Err z)))
 
 module _ (least n k l : ℕ) where
   pub run_there : least ≤ n → Take k l 0 ≡ heard_run least n k l
@@ -178,20 +181,20 @@ module _ (k l : ℕ) (s : List ℕ) (at : ℕ) where
     kinds_heard big false true network m = control_heard
     kinds_heard big false false network m = plain_heard big
 
-    absent_heard : (big : Bool) → heard_payload k l (payload big OptExtended.Absent n s at) ≡ heard_run 4 n k l
+    absent_heard : (big : Bool) → heard_payload k l (payload big None n s at) ≡ heard_run 4 n k l
     unfolding payload choose is_verbose_of is_control_of
     absent_heard big = plain_heard big
 
 -- the header's bytes stand before the payload, whose bytes end at the declared end
 extended_heard : (k l : ℕ) (s : List ℕ) (at n : ℕ) → at + n ≤ length s → (big : Bool) (p : ℕ) → p + 10 ≡ at
-    → heard_payload k l (payload big (OptExtended.Present (extended_at s p)) n (take (at + n) s) at) ≡ heard_extended big n k l s at
+    → heard_payload k l (payload big (Some (extended_at s p)) n (take (at + n) s) at) ≡ heard_extended big n k l s at
 unfolding payload choose is_verbose_of is_control_of count_of extended_at extended_of_lem heard_extended
 extended_heard k l s at n there big p e =
     let a : at - 10 ≡ p = omega arith in
     let b : at - 9 ≡ p + 1 = omega arith in
     let w : length (take (at + n) s) ≡ at + n = length-take-le (at + n) s there in
     rw (a, b, ← byte_number s p, ← byte_number s (p + 1), ← control_type_lem (number_of true 1 s p / 2 % 8) (number_of true 1 s p / 16))
-    (kinds_heard k l (take (at + n) s) at n (omega arith) big (flag 1 (number_of true 1 s p)) (control_type_of (message_type_by (number_of true 1 s p / 2 % 8) (number_of true 1 s p / 16))) (is_network_of (OptExtended.Present (extended_at s p))) (number_of true 1 s (p + 1)))
+    (kinds_heard k l (take (at + n) s) at n (omega arith) big (flag 1 (number_of true 1 s p)) (control_type_of (message_type_by (number_of true 1 s p / 2 % 8) (number_of true 1 s p / 16))) (is_network_of (Some (extended_at s p))) (number_of true 1 s (p + 1)))
 
 -- the whole
 module _ (f : List ℕ) (filter : Filter) (s : List ℕ) (o : Outline) (byte : o.header_type < 256) (v : Seen s o) where
@@ -213,7 +216,7 @@ module _ (f : List ℕ) (filter : Filter) (s : List ℕ) (o : Outline) (byte : o
   lies : at + n ≤ length s
   lies = omega (arith, v.long, v.lies)
 
-  abbrev extended_outlined : OptExtended
+  abbrev extended_outlined : Option ExtendedHeader
   extended_outlined = extended_if (flag 1 t) s (extended_place_of t (o.place + 16))
 
   outline_asked : heard o.place (16 + o.length) (confined_body_of h s at) ≡ asked f filter s

@@ -15,7 +15,6 @@ use Rattle.wire.specs.Lawful.{Kept, Waits}
 use Rattle.wire.proofs.Step.{step, then_done, ret_is, here_is}
 use Rattle.strings.specs.Text.{before0, text_need, text, ended_text, identified}
 use Rattle.mark.specs.First.{pattern, find}
-use Rattle.mark.specs.declared.Found.{Found}
 use Rattle.mark.proofs.Laws.{find_stable}
 use Rattle.headertype.specs.Bits.{one_if_of}
 use Rattle.headertype.specs.HeaderType.{overall_length_of}
@@ -27,7 +26,6 @@ use Rattle.headers.proofs.Inverse.{no_need}
 use Rattle.headers.proofs.Laws.{standard_law}
 use Rattle.storage.specs.Storage.{storage}
 use Rattle.filter.specs.declared.Filter.{Filter}
-use Rattle.filtering.specs.declared.OptExtended.{OptExtended}
 use Rattle.parse.specs.Message.{maybe_extended_of}
 use Rattle.parse.proofs.Nothing.{standard_of_nothing}
 use Rattle.worth.specs.Opening.{Opening, opening_behind, opening}
@@ -41,6 +39,7 @@ use Rattle.outline.proofs.There.{extended_there, storage_there}
 use Rattle.walk.specs.Walk.{Wait, Take}
 use Rattle.step.specs.Step.{kind_of, skipped_to_of, heard, asked}
 use Rattle.step.proofs.Fair.{waiting, patient}
+use Rattle.std.specs.Prelude.{Some, None}
 
 -- what is decided is an entry, at the place of the pattern
 module _ (f : List ℕ) (filter : Filter) (s : List ℕ) where
@@ -78,9 +77,9 @@ standard_near s at {h} {b} e = by (leb at (length s)) refl
 maybe_there : (t : Bool) (s : List ℕ) (at : ℕ) → at + one_if_of t * 10 ≤ length s → maybe_extended_of t s at ≡ done (extended_if t s at) (at + one_if_of t * 10)
 unfolding maybe_extended_of choose
 maybe_there true s at h = step extended _ s at (extended_there s at h) (ret_is _ s (at + 10))
-maybe_there false s at h = let z : at + 0 ≡ at = omega arith in ret_is OptExtended.Absent s at ∙ ap (done OptExtended.Absent) (sym z)
+maybe_there false s at h = let z : at + 0 ≡ at = omega arith in ret_is None s at ∙ ap (done None) (sym z)
 
-module _ (s : List ℕ) (k : ℕ) (h : StandardHeader) (b : ℕ) (found : find pattern s 0 ≡ Found.At k) (accepted : standard s (k + 16) ≡ done h b) where
+module _ (s : List ℕ) (k : ℕ) (h : StandardHeader) (b : ℕ) (found : find pattern s 0 ≡ Some k) (accepted : standard s (k + 16) ≡ done h b) where
   abbrev opened : Opening
   opened = record { stored = stored_at s k; start = k + 16; header = h; extended = extended_if h.has_extended_header s b }
 
@@ -158,14 +157,14 @@ maybe_wants true =
     (λ x. ret_wants _)
 maybe_wants false = ret_wants _
 
-opening_wants : (s : List ℕ) (k : ℕ) (h : StandardHeader) (b n : ℕ) → find pattern s 0 ≡ Found.At k → standard s (k + 16) ≡ done h b → opening true s 0 ≡ need n → 1 ≤ n
+opening_wants : (s : List ℕ) (k : ℕ) (h : StandardHeader) (b n : ℕ) → find pattern s 0 ≡ Some k → standard s (k + 16) ≡ done h b → opening true s 0 ≡ need n → 1 ≤ n
 unfolding opening choose opening_behind
 opening_wants s k h b n found accepted e =
     let near = standard_near s (k + 16) accepted in
     then_wants (maybe_extended_of h.has_extended_header) _ (maybe_wants h.has_extended_header) (λ x. ret_wants _) s b n
     (sym (then_done storage _ s 0 (storage_there s k found near) ∙ then_done here _ s (k + 16) (here_is s (k + 16)) ∙ then_done standard _ s (k + 16) accepted) ∙ e)
 
-pub at_least_one : (f : List ℕ) (filter : Filter) (s : List ℕ) (k : ℕ) (h : StandardHeader) (b n : ℕ) → find pattern s 0 ≡ Found.At k → standard s (k + 16) ≡ done h b → asked f filter s ≡ Wait n → 1 ≤ n
+pub at_least_one : (f : List ℕ) (filter : Filter) (s : List ℕ) (k : ℕ) (h : StandardHeader) (b n : ℕ) → find pattern s 0 ≡ Some k → standard s (k + 16) ≡ done h b → asked f filter s ≡ Wait n → 1 ≤ n
 at_least_one f filter s k h b n found accepted e = by (confined_lacks f filter true s n (waited f filter s n e))
   where
     by : Lacks true s n → 1 ≤ n
@@ -173,7 +172,7 @@ at_least_one f filter s k h b n found accepted e = by (confined_lacks f filter t
     by (Lacks.short o q) = q.some
 
 -- ACCEPTED: no wait for a byte past the declared end
-pub never_past : (f : List ℕ) (filter : Filter) (s : List ℕ) (k : ℕ) (h : StandardHeader) (b n : ℕ) → find pattern s 0 ≡ Found.At k → standard s (k + 16) ≡ done h b → asked f filter s ≡ Wait n
+pub never_past : (f : List ℕ) (filter : Filter) (s : List ℕ) (k : ℕ) (h : StandardHeader) (b n : ℕ) → find pattern s 0 ≡ Some k → standard s (k + 16) ≡ done h b → asked f filter s ≡ Wait n
     → length s + n ≤ k + 16 + overall_length_of h
 never_past f filter s k h b n found accepted e = by (leb (length s + n) end) refl
   where

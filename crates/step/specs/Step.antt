@@ -1,11 +1,9 @@
 -- Document 01, "The trace index": what the walk hears of the confined reading, in storage mode.
-use Rattle.std.specs.Prelude.{ℕ, ◌+◌, true, List}
+use Rattle.std.specs.Prelude.{ℕ, ◌+◌, true, List, Option, Some, None}
 use Rattle.wire.specs.Answer.{Ans}
 use Rattle.wire.specs.Answer.Ans.{done, need, hickup, broken}
 use Rattle.mark.specs.First.{pattern, find}
-use Rattle.mark.specs.declared.Found.{Found}
 use Rattle.headertype.specs.HeaderType.{overall_length_of}
-use Rattle.storage.specs.declared.OptStored.{OptStored}
 use Rattle.filter.specs.declared.Filter.{Filter}
 use Rattle.parse.specs.Message.{routed}
 use Rattle.parse.specs.declared.Headers.{Headers}
@@ -13,6 +11,7 @@ use Rattle.confined.specs.Confined.{confined_message_of}
 use Rattle.confined.specs.declared.ConfinedMessage.{ConfinedMessage}
 use Rattle.walk.specs.Walk.{Step, Wait, Take}
 use Rattle.step.specs.declared.Heard.{Heard}
+use Rattle.storage.specs.declared.Stored.{Stored}
 
 -- the kinds of an entry as numbers: item, filtered, hickup, unrecoverable, overrun
 abbrev pub item_kind : ℕ
@@ -36,9 +35,9 @@ kind_of (ConfinedMessage.FilteredOut p) = filtered_kind
 kind_of (ConfinedMessage.Overrun p) = overrun_kind
 
 -- the bytes skipped before the pattern
-abbrev pub skipped_to_of : Found → ℕ
-skipped_to_of (Found.At i) = i
-skipped_to_of Found.Nothing = 0
+abbrev pub skipped_to_of : Option ℕ → ℕ
+skipped_to_of (Some i) = i
+skipped_to_of None = 0
 
 -- 16 plus declared
 abbrev pub length_of : Ans Headers → ℕ
@@ -59,9 +58,9 @@ unfoldable pub asked : List ℕ → Filter → List ℕ → Step ℕ ℕ
 asked f filter s = heard (skipped_to_of (find pattern s 0)) (length_of (routed f filter true s 0)) (confined_message_of f filter true s 0)
 
 -- the bytes skipped, as the storage header has them
-unfoldable pub skipped_of_lem : OptStored → ℕ
-skipped_of_lem (OptStored.Present x) = x.skipped
-skipped_of_lem OptStored.Absent = 0
+unfoldable pub skipped_of_lem : Option Stored → ℕ
+skipped_of_lem (Some x) = x.skipped
+skipped_of_lem None = 0
 
 -- the step that the enum stands for
 abbrev pub step_of : Heard → Step ℕ ℕ

@@ -19,7 +19,7 @@ use Rattle.headertype.specs.declared.StandardHeader.{StandardHeader}
 use Rattle.headers.proofs.Laws.{standard_law}
 use Rattle.storage.specs.Settled.{Stays, Ends, Settled}
 use Rattle.storage.specs.Consume.{tagged, skip, from, whole, consume}
-use Rattle.storage.specs.declared.OptCount.{OptCount}
+use Rattle.std.specs.Prelude.{Option, None}
 
 -- ---- the laws of such rules
 lawful_settled : {A : Type 0} (p : Parser A) → Lawful p → Settled p
@@ -174,10 +174,10 @@ other_letter = refl
 
 pub consume_not_honest : Honest consume → ⊥
 consume_not_honest h =
-    let three : ◌≡◌ {A = ℕ} 3 2 = sym (ap (λ (x : Ans OptCount). (numbered x).number) other_letter) ∙ h (0x44 ∷ []) (0x58 ∷ []) 2 (ap numbered one_letter) (omega arith) in
+    let three : ◌≡◌ {A = ℕ} 3 2 = sym (ap (λ (x : Ans (Option ℕ)). (numbered x).number) other_letter) ∙ h (0x44 ∷ []) (0x58 ∷ []) 2 (ap numbered one_letter) (omega arith) in
     omega (arith, three)
 
 -- and empty input is done, though a byte more is not
-pub consume_of_nothing : consume [] 0 ≡ done OptCount.Absent 0
+pub consume_of_nothing : consume [] 0 ≡ done None 0
 unfolding consume
 consume_of_nothing = refl

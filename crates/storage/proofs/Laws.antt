@@ -20,10 +20,10 @@ use Rattle.wire.proofs.Laws.{then_law}
 use Rattle.wire.proofs.Rules.{laws}
 use Rattle.strings.proofs.Strings.{identified_law}
 use Rattle.mark.specs.First.{pattern, find}
-use Rattle.mark.specs.declared.Found.{Found}
 use Rattle.mark.proofs.Laws.{found_from, found_within, find_stable}
 use Rattle.storage.specs.Storage.{from_mark, marked, owned, stored, storage}
-use Rattle.storage.specs.declared.OptStored.{OptStored}
+use Rattle.std.specs.Prelude.{Option, Some, None}
+use Rattle.storage.specs.declared.Stored.{Stored}
 
 owned_law : (skipped seconds micros : ℕ) → Lawful (owned skipped seconds micros)
 unfolding owned
@@ -46,13 +46,13 @@ module _ {A B : Type 0} (mark : List ℕ) (some : 0 < length mark) (n : ℕ) (le
   both : (skipped : ℕ) → Lawful (lead skipped >>= k)
   both skipped = then_law (lead skipped) k (hl skipped) hk
 
-  found_kept : (s t : List ℕ) (at : ℕ) (o : Found) → find mark s at ≡ o
+  found_kept : (s t : List ℕ) (at : ℕ) (o : Option ℕ) → find mark s at ≡ o
       → Kept (follow (from_mark lead none s at o) k s) (length t) (follow (from_mark lead none (s ++ t) at (find mark (s ++ t) at)) k (s ++ t))
   unfolding ◌>>=◌
-  found_kept s t at (Found.At i) e =
+  found_kept s t at (Some i) e =
       let w = found_within mark s at i some e in
       rw (find_stable mark s t at i some e) ((both (i - at)).kept s t i (omega arith))
-  found_kept s t at Found.Nothing e =
+  found_kept s t at None e =
       rw (none-needs s) (λ few.
       let z : t ≡ [] = no_bytes t few in
       let same : s ++ t ≡ s = ap (λ (l : List ℕ). s ++ l) z ∙ append-nil s in
@@ -73,13 +73,13 @@ module _ {A B : Type 0} (mark : List ℕ) (some : 0 < length mark) (n : ℕ) (le
   further at b len h (hickup r) w = tt
   further at b len h broken w = tt
 
-  found_inside : (s : List ℕ) (at : ℕ) (o : Found) → find mark s at ≡ o → Within at (length s) (follow (from_mark lead none s at o) k s)
+  found_inside : (s : List ℕ) (at : ℕ) (o : Option ℕ) → find mark s at ≡ o → Within at (length s) (follow (from_mark lead none s at o) k s)
   unfolding ◌>>=◌
-  found_inside s at (Found.At i) e =
+  found_inside s at (Some i) e =
       let w = found_within mark s at i some e in
       let f = found_from mark s at i some e in
       further at i (length s) f ((lead (i - at) >>= k) s i) ((both (i - at)).within s i (omega arith))
-  found_inside s at Found.Nothing e = rw (none-needs s) tt
+  found_inside s at None e = rw (none-needs s) tt
 
   marked_inside : (s : List ℕ) (at : ℕ) (b : Bool) → Within at (length s) (follow (pick b (from_mark lead none s at (find mark s at)) (need 0)) k s)
   marked_inside s at true = found_inside s at (find mark s at) refl
@@ -93,6 +93,6 @@ module _ {A B : Type 0} (mark : List ℕ) (some : 0 < length mark) (n : ℕ) (le
   }
 
 -- a rule behind the storage header; with no pattern the rest is empty, so the rule's need there is the whole's
-pub storage_law : {B : Type 0} (k : OptStored → Parser B) → ((o : OptStored) → Lawful (k o)) → ((s : List ℕ) → k OptStored.Absent s (length s) ≡ need 1) → Lawful (storage >>= k)
+pub storage_law : {B : Type 0} (k : Option Stored → Parser B) → ((o : Option Stored) → Lawful (k o)) → ((s : List ℕ) → k None s (length s) ≡ need 1) → Lawful (storage >>= k)
 unfolding storage
-storage_law k hk e = marked_law pattern (lit< tt) 16 stored OptStored.Absent k stored_law hk e
+storage_law k hk e = marked_law pattern (lit< tt) 16 stored None k stored_law hk e

@@ -2,4 +2,3 @@ pub mod Tags
 pub mod Reading
 pub mod Laws
 pub mod Consumed
-pub mod Determined

@@ -1,15 +1,11 @@
 -- Document 01, `skip_storage_header` and `dlt_consume_msg`.
-use Rattle.std.specs.Prelude.{ℕ, suc, ◌+◌, ◌-◌, List, [], ◌∷◌, length, get_or, leb, eqb}
-use Rattle.wire.specs.Answer.{Ans, Parser}
+use Rattle.std.specs.Prelude.{ℕ, suc, ◌+◌, ◌-◌, List, [], ◌∷◌, length, get_or, leb, eqb, Option, Some, None}
+use Rattle.wire.specs.Answer.{Parser}
 use Rattle.wire.specs.Answer.Ans.{done, need, hickup}
 use Rattle.wire.specs.Parser.{pick, ret, here, ◌>>=◌}
 use Rattle.wire.specs.Run.{bytes}
 use Rattle.headertype.specs.HeaderType.{overall_length_of}
 use Rattle.headers.specs.Standard.{standard}
-use Rattle.storage.specs.declared.OptCount.{OptCount}
-use Rattle.storage.specs.declared.TagAns.{TagAns}
-use Rattle.storage.specs.declared.SkipAns.{SkipAns}
-use Rattle.storage.specs.declared.ConsumeAns.{ConsumeAns}
 
 -- the bytes of p stand at once; the first that differs is Hickup 4; else the need is their shortfall
 unfoldable pub tagged : List ℕ → Parser Unit
@@ -29,29 +25,13 @@ unfoldable pub from : {A : Type 0} → ℕ → Parser A → Parser A
 from start p s at = p s start
 
 -- the message whole, counted with its storage header. The extended header isn't read, though its ten bytes count
-unfoldable pub whole : Parser OptCount
+unfoldable pub whole : Parser (Option ℕ)
 whole = do
   start ← here
   header ← standard
   message ← from start (bytes (overall_length_of header))
-  ret (OptCount.Present (16 + overall_length_of header))
+  ret (Some (16 + overall_length_of header))
 
 -- empty input is done with no count
-unfoldable pub consume : Parser OptCount
-consume s at = pick (leb 1 (length s - at)) ((skip >>= (λ lead. whole)) s at) (done OptCount.Absent at)
-
--- the answers that the enums stand for
-abbrev pub tag_ans : TagAns → Ans Unit
-tag_ans (TagAns.Done next) = done tt next
-tag_ans (TagAns.Need n) = need n
-tag_ans (TagAns.Hickup r) = hickup r
-
-abbrev pub skip_ans : SkipAns → Ans ℕ
-skip_ans (SkipAns.Done g) = done g.v g.next
-skip_ans (SkipAns.Need n) = need n
-skip_ans (SkipAns.Hickup r) = hickup r
-
-abbrev pub consume_ans : ConsumeAns → Ans OptCount
-consume_ans (ConsumeAns.Done g) = done g.v g.next
-consume_ans (ConsumeAns.Need n) = need n
-consume_ans (ConsumeAns.Hickup r) = hickup r
+unfoldable pub consume : Parser (Option ℕ)
+consume s at = pick (leb 1 (length s - at)) ((skip >>= (λ lead. whole)) s at) (done None at)

@@ -3,13 +3,12 @@
 
 ghost use Rattle.std.specs.Prelude.{◌≡◌, ◌+◌, ◌≤◌, take, drop};
 ghost use Rattle.mark.specs.First.{pattern};
-ghost use Rattle.storage.specs.Storage.{owned, stored, storage, storage_ans};
-ghost use Rattle.storage.specs.Consume.{tagged, skip, whole, consume, tag_ans, skip_ans, consume_ans};
+ghost use Rattle.storage.specs.Storage.{owned, stored, storage};
+ghost use Rattle.storage.specs.Consume.{tagged, skip, whole, consume};
+ghost use Rattle.wire.specs.Answers.{need_ans, passed_ans, stop_ans};
 
-use headers::StandardAns;
 use headertype::{DltTimeStamp, StorageHeader};
-use mark::Found;
-use wire::{GotU64, RangeAns, TextAns, U32Ans};
+use wire::{Got, Need, Reason, Stop};
 
 // A storage header, and how many bytes were skipped to reach its pattern.
 #[derive(Clone, Copy)]
@@ -18,73 +17,23 @@ pub struct Stored {
     pub skipped: usize,
 }
 
-#[derive(Clone, Copy)]
-pub enum OptStored {
-    Present(Stored),
-    Absent,
-}
-
-#[derive(Clone, Copy)]
-pub struct GotStorage {
-    pub v: OptStored,
-    pub next: usize,
-}
-
-#[derive(Clone, Copy)]
-pub enum StorageAns {
-    Done(GotStorage),
-    Need(usize),
-}
-
-// The position behind a tag.
-#[derive(Clone, Copy)]
-pub enum TagAns {
-    Done(usize),
-    Need(usize),
-    Hickup(u8),
-}
-
-#[derive(Clone, Copy)]
-pub enum SkipAns {
-    Done(GotU64),
-    Need(usize),
-    Hickup(u8),
-}
-
-// How many bytes a message had, storage header and all.
-#[derive(Clone, Copy)]
-pub enum OptCount {
-    Present(u64),
-    Absent,
-}
-
-#[derive(Clone, Copy)]
-pub struct GotCount {
-    pub v: OptCount,
-    pub next: usize,
-}
-
-#[derive(Clone, Copy)]
-pub enum ConsumeAns {
-    Done(GotCount),
-    Need(usize),
-    Hickup(u8),
-}
-
 // The storage pattern.
 const PATTERN: [u8; 4] = *b"DLT\x01";
 
 // The identifier of a storage header.
-fn owned_fields(s: &[u8], at: usize, skipped: usize, seconds: u32, micros: u32) -> StorageAns
-    ensures { storage_ans result ≡ owned skipped seconds micros s.now at }
+fn owned_fields(
+    s: &[u8],
+    at: usize,
+    skipped: usize,
+    seconds: u32,
+    micros: u32,
+) -> Result<Got<Option<Stored>>, Need>
+    ensures { need_ans result ≡ owned skipped seconds micros s.now at }
 {
-    let ecu = match strings::identifier(s, at) {
-        TextAns::Done(ecu) => ecu,
-        TextAns::Need(no_ecu) => return StorageAns::Need(no_ecu),
-    };
+    let ecu = strings::identifier(s, at)?;
     let ecu_id = ecu.v;
-    StorageAns::Done(GotStorage {
-        v: OptStored::Present(Stored {
+    Ok(Got {
+        v: Some(Stored {
             header: StorageHeader {
                 timestamp: DltTimeStamp {
                     seconds: seconds,
@@ -99,117 +48,84 @@ fn owned_fields(s: &[u8], at: usize, skipped: usize, seconds: u32, micros: u32) 
 }
 
 // The storage header whose pattern stands at `at`.
-fn stored_fields(s: &[u8], at: usize, skipped: usize) -> StorageAns
-    ensures { storage_ans result ≡ stored skipped s.now at }
+fn stored_fields(s: &[u8], at: usize, skipped: usize) -> Result<Got<Option<Stored>>, Need>
+    ensures { need_ans result ≡ stored skipped s.now at }
 {
-    let mark = match wire::take(s, at, 4) {
-        RangeAns::Done(mark) => mark,
-        RangeAns::Need(no_mark) => return StorageAns::Need(no_mark),
-    };
-    let seconds = match wire::parse_u32(s, mark.next, false) {
-        U32Ans::Done(seconds) => seconds,
-        U32Ans::Need(no_seconds) => return StorageAns::Need(no_seconds),
-    };
-    let micros = match wire::parse_u32(s, seconds.next, false) {
-        U32Ans::Done(micros) => micros,
-        U32Ans::Need(no_micros) => return StorageAns::Need(no_micros),
-    };
+    let mark = wire::take(s, at, 4)?;
+    let seconds = wire::parse_u32(s, mark.next, false)?;
+    let micros = wire::parse_u32(s, seconds.next, false)?;
     owned_fields(s, micros.next, skipped, seconds.v, micros.v)
 }
 
 // The first storage header from `at` on.
-pub fn dlt_storage_header(s: &[u8], at: usize) -> StorageAns
-    ensures { storage_ans result ≡ storage s.now at }
+pub fn dlt_storage_header(s: &[u8], at: usize) -> Result<Got<Option<Stored>>, Need>
+    ensures { need_ans result ≡ storage s.now at }
 {
     let rest = wire::left(s, at);
     if rest < 16 {
-        return StorageAns::Need(0);
+        return Err(Need(0));
     }
     match mark::forward_to_next_storage_header(s, at) {
-        Found::At(i) => stored_fields(s, i, i - at),
-        Found::Nothing => StorageAns::Done(GotStorage {
-            v: OptStored::Absent,
+        Some(i) => stored_fields(s, i, i - at),
+        None => Ok(Got {
+            v: None,
             next: s.len(),
         }),
     }
 }
 
 // The `size` bytes of the pattern from its byte `first` on, which must stand at `at`.
-fn tag(s: &[u8], at: usize, first: usize, size: usize) -> TagAns
+fn tag(s: &[u8], at: usize, first: usize, size: usize) -> Result<usize, Stop>
     requires { first + size ≤ 4 }
-    ensures { tag_ans result ≡ tagged (take size (drop first pattern)) s.now at }
+    ensures { passed_ans result ≡ tagged (take size (drop first pattern)) s.now at }
 {
     let rest = wire::left(s, at);
-    let mut k: usize = 0;
-    while k < size {
+    for k in 0..size {
         if rest <= k {
-            return TagAns::Need(size - k);
+            return Err(Stop::Need(size - k));
         }
         if s[at + k] != PATTERN[first + k] {
-            return TagAns::Hickup(4);
+            return Err(Stop::Hickup(Reason::Pattern));
         }
-        k += 1;
     }
-    TagAns::Done(at + size)
+    Ok(at + size)
 }
 
 // Passes the storage header that stands at `at`.
-pub fn skip_storage_header(s: &[u8], at: usize) -> SkipAns
-    ensures { skip_ans result ≡ skip s.now at }
+pub fn skip_storage_header(s: &[u8], at: usize) -> Result<Got<u64>, Stop>
+    ensures { stop_ans result ≡ skip s.now at }
 {
-    let letters = match tag(s, at, 0, 3) {
-        TagAns::Done(letters) => letters,
-        TagAns::Need(no_letters) => return SkipAns::Need(no_letters),
-        TagAns::Hickup(bad_letters) => return SkipAns::Hickup(bad_letters),
-    };
-    let one = match tag(s, letters, 3, 1) {
-        TagAns::Done(one) => one,
-        TagAns::Need(no_one) => return SkipAns::Need(no_one),
-        TagAns::Hickup(bad_one) => return SkipAns::Hickup(bad_one),
-    };
-    match wire::take(s, one, 12) {
-        RangeAns::Done(rest) => SkipAns::Done(GotU64 {
-            v: 16,
-            next: rest.next,
-        }),
-        RangeAns::Need(no_rest) => SkipAns::Need(no_rest),
-    }
+    let letters = tag(s, at, 0, 3)?;
+    let one = tag(s, letters, 3, 1)?;
+    let rest = wire::take(s, one, 12)?;
+    Ok(Got {
+        v: 16,
+        next: rest.next,
+    })
 }
 
 // The message behind a storage header.
-fn whole_message(s: &[u8], at: usize) -> ConsumeAns
-    ensures { consume_ans result ≡ whole s.now at }
+fn whole_message(s: &[u8], at: usize) -> Result<Got<Option<u64>>, Stop>
+    ensures { stop_ans result ≡ whole s.now at }
 {
-    let standard = match headers::dlt_standard_header(s, at) {
-        StandardAns::Done(standard) => standard,
-        StandardAns::Need(no_standard) => return ConsumeAns::Need(no_standard),
-        StandardAns::Hickup(bad_standard) => return ConsumeAns::Hickup(bad_standard),
-    };
+    let standard = headers::dlt_standard_header(s, at)?;
     let header = standard.v;
     let length = header.overall_length();
-    match wire::take(s, at, length as usize) {
-        RangeAns::Done(message) => ConsumeAns::Done(GotCount {
-            v: OptCount::Present(16 + length as u64),
-            next: message.next,
-        }),
-        RangeAns::Need(no_message) => ConsumeAns::Need(no_message),
-    }
+    let message = wire::take(s, at, length as usize)?;
+    Ok(Got {
+        v: Some(16 + length as u64),
+        next: message.next,
+    })
 }
 
 // Passes one message whose storage header stands at `at`.
-pub fn dlt_consume_msg(s: &[u8], at: usize) -> ConsumeAns
-    ensures { consume_ans result ≡ consume s.now at }
+pub fn dlt_consume_msg(s: &[u8], at: usize) -> Result<Got<Option<u64>>, Stop>
+    ensures { stop_ans result ≡ consume s.now at }
 {
     let rest = wire::left(s, at);
     if rest < 1 {
-        return ConsumeAns::Done(GotCount {
-            v: OptCount::Absent,
-            next: at,
-        });
+        return Ok(Got { v: None, next: at });
     }
-    match skip_storage_header(s, at) {
-        SkipAns::Done(lead) => whole_message(s, lead.next),
-        SkipAns::Need(no_lead) => ConsumeAns::Need(no_lead),
-        SkipAns::Hickup(bad_lead) => ConsumeAns::Hickup(bad_lead),
-    }
+    let lead = skip_storage_header(s, at)?;
+    whole_message(s, lead.next)
 }

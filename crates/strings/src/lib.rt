@@ -5,11 +5,12 @@
 
 ghost use Rattle.std.specs.Prelude.{◌≡◌, [], ◌∷◌, ◌+◌, ◌-◌, ◌≤◌, ◌<◌, length, get_or};
 ghost use Rattle.wire.specs.Answer.Ans.{done};
-ghost use Rattle.wire.specs.Run.{range, text_ans};
+ghost use Rattle.wire.specs.Run.{range};
 ghost use Rattle.strings.specs.Utf8.{span, tail, inside, formed, sequence, least, valid_up_to_of};
 ghost use Rattle.strings.specs.Text.{before0, letter, Letters, text_need, text_of, ended_of, text, identified, id_length_of};
+ghost use Rattle.wire.specs.Answers.{need_ans};
 
-use wire::{Ended, GotText, Range, Text, TextAns};
+use wire::{Ended, Got, Need, Range, Text};
 
 // Whether the byte at `at` is from `low` to `high`.
 fn stands(s: &[u8], at: usize, low: u8, high: u8) -> bool
@@ -162,12 +163,10 @@ fn before_zero(s: &[u8], at: usize, n: usize) -> usize
     requires { n ≤ length s.now - at }
     ensures { result ≡ before0 n s.now at }
 {
-    let mut k: usize = 0;
-    while k < n {
+    for k in 0..n {
         if s[at + k] == 0 {
             return k;
         }
-        k += 1;
     }
     n
 }
@@ -177,17 +176,15 @@ fn letters(s: &[u8], at: usize, n: usize) -> usize
     requires { n ≤ length s.now - at }
     ensures { Letters s.now at n result }
 {
-    let mut k: usize = 0;
-    while k < n {
+    for k in 0..n {
         if s[at + k] == 0 {
             return k;
         }
         if 0x7F < s[at + k] {
             return k;
         }
-        k += 1;
     }
-    k
+    n
 }
 
 // The length of a string's value, where its `n` bytes are there.
@@ -222,26 +219,30 @@ fn why_ended(s: &[u8], at: usize, n: usize, len: usize) -> Ended
 }
 
 // A string of a size at the front of the bytes.
-pub fn dlt_zero_terminated_string(s: &[u8], size: usize) -> TextAns
-    ensures { text_ans result ≡ text size s.now 0 }
+pub fn dlt_zero_terminated_string(s: &[u8], size: usize) -> Result<Got<Text>, Need>
+    ensures { need_ans result ≡ text size s.now 0 }
 {
     dlt_zero_terminated_string_intern(s, 0, size)
 }
 
 // A string of a size at a position: the longest valid UTF-8 prefix of what stands before its first zero byte, and why it ended.
-pub fn dlt_zero_terminated_string_intern(s: &[u8], at: usize, size: usize) -> TextAns
-    ensures { text_ans result ≡ text size s.now at }
+pub fn dlt_zero_terminated_string_intern(
+    s: &[u8],
+    at: usize,
+    size: usize,
+) -> Result<Got<Text>, Need>
+    ensures { need_ans result ≡ text size s.now at }
 {
     let rest = wire::left(s, at);
     if rest < size {
         if before_zero(s, at, rest) < rest {
-            return TextAns::Need(size - rest);
+            return Err(Need(size - rest));
         }
-        return TextAns::Need(1);
+        return Err(Need(1));
     }
     let len = content(s, at, size);
     let ended = why_ended(s, at, size, len);
-    TextAns::Done(GotText {
+    Ok(Got {
         v: Text {
             place: Range { start: at, len },
             ended,
@@ -332,11 +333,11 @@ pub fn id_length(s: &[u8], at: usize) -> usize
 }
 
 // An identifier that was read: where its value stands, why it ended, and all four bytes are used.
-fn read_identifier(at: usize, len: usize, ended: Ended) -> TextAns
+fn read_identifier(at: usize, len: usize, ended: Ended) -> Result<Got<Text>, Need>
     requires { at + 4 < 18446744073709551616 }
-    ensures { text_ans result ≡ done (record { place = range at len; ended = ended }) (at + 4) }
+    ensures { need_ans result ≡ done (record { place = range at len; ended = ended }) (at + 4) }
 {
-    TextAns::Done(GotText {
+    Ok(Got {
         v: Text {
             place: Range { start: at, len },
             ended,
@@ -364,12 +365,12 @@ fn id_need(s: &[u8], at: usize, rest: usize) -> usize
 }
 
 // An identifier: a string of size 4. Most values have all four bytes, and are answered by themselves (docs/DECISIONS.md).
-pub fn identifier(s: &[u8], at: usize) -> TextAns
-    ensures { text_ans result ≡ identified s.now at }
+pub fn identifier(s: &[u8], at: usize) -> Result<Got<Text>, Need>
+    ensures { need_ans result ≡ identified s.now at }
 {
     let rest = wire::left(s, at);
     if rest < 4 {
-        return TextAns::Need(id_need(s, at, rest));
+        return Err(Need(id_need(s, at, rest)));
     }
     let len = id_length(s, at);
     if len == 4 {

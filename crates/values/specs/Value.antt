@@ -3,8 +3,7 @@
 use Rattle.std.specs.Prelude.{ℕ, ◌/◌, ◌%◌, ◌^◌, Bool}
 use Rattle.std.specs.Float.{binary32, binary64}
 use Rattle.std.specs.Float.Ieee.{of_bits}
-use Rattle.wire.specs.Answer.{Ans, Parser}
-use Rattle.wire.specs.Answer.Ans.{done, need}
+use Rattle.wire.specs.Answer.{Parser}
 use Rattle.wire.specs.Parser.{ret, ◌>>=◌}
 use Rattle.wire.specs.Number.{number, numeric}
 use Rattle.signed.specs.Twos.{twos}
@@ -18,8 +17,6 @@ use Rattle.dlt.specs.declared.Value.{Value}
 use Rattle.dlt.specs.declared.FixedPointValue.{FixedPointValue}
 use Rattle.dlt.specs.declared.FixedPoint.{FixedPoint}
 use Rattle.values.specs.declared.Numeric.{Numeric}
-use Rattle.values.specs.declared.ValueAns.{ValueAns}
-use Rattle.values.specs.declared.PointAns.{PointAns}
 
 -- an unsigned number of a width; 128 bits are two halves
 unfoldable pub unsigned_of : TypeLength → ℕ → Value
@@ -80,12 +77,3 @@ fixed_point_of big width = do
   bits ← number big 4
   off ← offset big width
   ret (record { quantization = of_bits binary32 bits; pattern = bits; offset = off })
-
--- the answers that the enums stand for
-abbrev pub value_ans : ValueAns → Ans Value
-value_ans (ValueAns.Done g) = done g.v g.next
-value_ans (ValueAns.Need n) = need n
-
-abbrev pub point_ans : PointAns → Ans FixedPoint
-point_ans (PointAns.Done g) = done g.v g.next
-point_ans (PointAns.Need n) = need n

@@ -16,12 +16,13 @@ use Rattle.wire.specs.Run.{range, bytes}
 use Rattle.wire.proofs.Runs.{take_done}
 use Rattle.wire.proofs.Step.{then_done, fixed_done, choose_true, choose_false}
 use Rattle.messageinfo.specs.MessageInfo.{control_of}
-use Rattle.filtering.specs.declared.OptExtended.{OptExtended}
 use Rattle.payload.specs.Payload.{is_verbose_of, is_control_of, control, plain, payload}
 use Rattle.payload.specs.declared.PayloadContent.{PayloadContent}
 use Rattle.parse.specs.Message.{item_of, passed, item, body}
 use Rattle.parse.specs.declared.Headers.{Headers}
 use Rattle.worth.specs.Need.{Decided}
+use Rattle.std.specs.Prelude.{Option}
+use Rattle.messageinfo.specs.declared.ExtendedHeader.{ExtendedHeader}
 
 -- an answer that the next rule gives
 module _ {A B : Type 0} (p : Parser A) (k : A → Parser B) (s : List ℕ) (at all : ℕ) where
@@ -66,7 +67,7 @@ unfolding choose
 choose_decided true p q s at all a b = a
 choose_decided false p q s at all a b = b
 
-payload_decided : (big : Bool) (e : OptExtended) (n : ℕ) (s : List ℕ) (at : ℕ) → is_verbose_of e ≡ false → at + n ≤ length s → Decided (at + n) (payload big e n s at)
+payload_decided : (big : Bool) (e : Option ExtendedHeader) (n : ℕ) (s : List ℕ) (at : ℕ) → is_verbose_of e ≡ false → at + n ≤ length s → Decided (at + n) (payload big e n s at)
 unfolding payload
 payload_decided big e n s at v h =
     subst (Decided (at + n)) (sym (choose_false _ _ s at v))

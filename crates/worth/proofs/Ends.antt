@@ -13,19 +13,19 @@ use Rattle.wire.specs.declared.Text.{Text}
 use Rattle.wire.proofs.Step.{ends}
 use Rattle.headertype.specs.Bits.{one_if_of}
 use Rattle.headertype.specs.HeaderType.{all_headers, header_type_byte_of, overall_length_of}
-use Rattle.headertype.specs.declared.OptText.{OptText}
 use Rattle.headers.specs.Standard.{standard}
 use Rattle.headers.specs.Extended.{extended}
 use Rattle.headers.proofs.Laws.{standard_law}
 use Rattle.headers.proofs.Inverse.{split, same_value, of_ret, ecu_inside}
 use Rattle.headers.proofs.Ends.{standard_ends, standard_says, extended_ends}
 use Rattle.storage.specs.Storage.{storage}
-use Rattle.storage.specs.declared.OptStored.{OptStored}
-use Rattle.filtering.specs.declared.OptExtended.{OptExtended}
 use Rattle.filtering.proofs.Stable.{IdsIn}
 use Rattle.parse.specs.Message.{maybe_extended_of}
 use Rattle.facts.proofs.Laws.{maybe_ids}
 use Rattle.worth.specs.Opening.{Opening, opening_behind, opening}
+use Rattle.std.specs.Prelude.{Option, Some, None}
+use Rattle.storage.specs.declared.Stored.{Stored}
+use Rattle.messageinfo.specs.declared.ExtendedHeader.{ExtendedHeader}
 
 -- steps 3 and 4, read: where the two headers begin and end
 pub record Parts (l : Opening) (n : ℕ) (s : List ℕ) : Type 0 where
@@ -36,7 +36,7 @@ pub record Parts (l : Opening) (n : ℕ) (s : List ℕ) : Type 0 where
 same_parts : {l l' : Opening} {n n' : ℕ} {s : List ℕ} → l ≡ l' → n ≡ n' → Parts l' n' s → Parts l n s
 same_parts a b p = rw (a, b) p
 
-behind_parts : (o : OptStored) (l : Opening) (n : ℕ) (s : List ℕ) (at : ℕ) → opening_behind o s at ≡ done l n → Parts l n s
+behind_parts : (o : Option Stored) (l : Opening) (n : ℕ) (s : List ℕ) (at : ℕ) → opening_behind o s at ≡ done l n → Parts l n s
 unfolding opening_behind here
 behind_parts o l n s at e =
     let r0 = split here _ s at e in
@@ -49,15 +49,15 @@ behind_parts o l n s at e =
 pub parts : (t : Bool) (l : Opening) (n : ℕ) (s : List ℕ) (at : ℕ) → opening t s at ≡ done l n → Parts l n s
 unfolding opening choose
 parts true l n s at e = let r = split storage opening_behind s at e in behind_parts r.value l n s r.mid r.second
-parts false l n s at e = behind_parts OptStored.Absent l n s at e
+parts false l n s at e = behind_parts None l n s at e
 
-pub ext_ends : (t : Bool) (o : OptExtended) (n : ℕ) (s : List ℕ) (at : ℕ) → maybe_extended_of t s at ≡ done o n → n ≡ at + one_if_of t * 10
+pub ext_ends : (t : Bool) (o : Option ExtendedHeader) (n : ℕ) (s : List ℕ) (at : ℕ) → maybe_extended_of t s at ≡ done o n → n ≡ at + one_if_of t * 10
 unfolding maybe_extended_of choose
 ext_ends true o n s at e =
-    let r = split extended (λ x. ret (OptExtended.Present x)) s at e in
-    let q = of_ret s r.mid (OptExtended.Present r.value) r.second in
+    let r = split extended (λ x. ret (Some x)) s at e in
+    let q = of_ret s r.mid (Some r.value) r.second in
     omega (arith, q.1, extended_ends r.value r.mid s at r.first)
-ext_ends false o n s at e = let q = of_ret s at OptExtended.Absent e in omega (arith, q.1)
+ext_ends false o n s at e = let q = of_ret s at None e in omega (arith, q.1)
 
 module _ {l : Opening} {n : ℕ} {s : List ℕ} (p : Parts l n s) where
   -- the headers end so many bytes behind the storage header as their type byte says
@@ -69,7 +69,7 @@ module _ {l : Opening} {n : ℕ} {s : List ℕ} (p : Parts l n s) where
   opening_says = standard_says l.header p.mid s l.start p.first
 
   -- the ids that a filter looks at lie within the bytes
-  pub ecu_in : l.start ≤ length s → (t : Text) → l.header.ecu_id ≡ OptText.Present t → t.place.start + t.place.len ≤ length s
+  pub ecu_in : l.start ≤ length s → (t : Text) → l.header.ecu_id ≡ Some t → t.place.start + t.place.len ≤ length s
   ecu_in h = ecu_inside l.header p.mid s l.start h p.first
 
   pub ids_in_lem : l.start ≤ length s → IdsIn s l.extended

@@ -13,9 +13,9 @@ use Rattle.messageinfo.specs.declared.ExtendedHeader.{ExtendedHeader}
 use Rattle.headers.proofs.Inverse.{split, same_value, no_need, of_ret}
 use Rattle.filter.specs.Filter.{filter_of}
 use Rattle.filter.specs.declared.Filter.{Filter}
-use Rattle.filter.specs.declared.FilterAns.{FilterAns}
+use Rattle.filter.specs.declared.FilterError.{FilterError}
+use Rattle.std.specs.Prelude.{Result, Ok, Err, Some}
 use Rattle.filtering.specs.FilteredOut.{filtered_out_of}
-use Rattle.filtering.specs.declared.OptExtended.{OptExtended}
 use Rattle.filtering.proofs.Plain.{dropped_has_one}
 use Rattle.payload.specs.Payload.{payload}
 use Rattle.parse.specs.Message.{Answer, having_from, seen, headers_of_lem, routed, is_big_of, item_of, item, passed, body, message, judged, message_of}
@@ -59,7 +59,7 @@ pub record Extended (t : Bool) (s : List ℕ) : Type 0 where
   pub behind : ℕ
   pub read : opening t s 0 ≡ done opening_read behind
   pub header : ExtendedHeader
-  pub there : opening_read.extended ≡ OptExtended.Present header
+  pub there : opening_read.extended ≡ Some header
 
 module _ (f : List ℕ) (t : Bool) (s : List ℕ) (n b : ℕ) where
   message_extended : (filter : Filter) → message f filter t s 0 ≡ done (ParsedMessage.FilteredOut n) b → Extended t s
@@ -75,7 +75,7 @@ module _ (f : List ℕ) (t : Bool) (s : List ℕ) (n b : ℕ) where
   unfolding message_of judged
   never_filtered e = by (filter_of f) e
     where
-      by : (v : FilterAns) → judged (λ filter. message f filter t s 0) v ≡ Answer.answered (done (ParsedMessage.FilteredOut n) b) → Extended t s
-      by (FilterAns.Good filter) q = message_extended filter (let z : message f filter t s 0 ≡ done (ParsedMessage.FilteredOut n) b = cc in z)
-      by FilterAns.Retired q = let z : ◌≡◌ {A = ℕ} 0 1 = cc in absurd (omega arith)
-      by FilterAns.Bad q = let z : ◌≡◌ {A = ℕ} 0 1 = cc in absurd (omega arith)
+      by : (v : Result Filter FilterError) → judged (λ filter. message f filter t s 0) v ≡ Answer.answered (done (ParsedMessage.FilteredOut n) b) → Extended t s
+      by (Ok filter) q = message_extended filter (let z : message f filter t s 0 ≡ done (ParsedMessage.FilteredOut n) b = cc in z)
+      by (Err FilterError.Retired) q = let z : ◌≡◌ {A = ℕ} 0 1 = cc in absurd (omega arith)
+      by (Err FilterError.Bad) q = let z : ◌≡◌ {A = ℕ} 0 1 = cc in absurd (omega arith)

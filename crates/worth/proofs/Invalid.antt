@@ -10,8 +10,6 @@ use borrow.Author.Tests.{le-ltb}
 use Rattle.wire.specs.Answer.Ans.{done}
 use Rattle.wire.specs.Number.{number_of}
 use Rattle.headertype.specs.HeaderType.{all_headers, header_type_byte_of, overall_length_of}
-use Rattle.headertype.specs.declared.OptNum.{OptNum}
-use Rattle.headertype.specs.declared.OptText.{OptText}
 use Rattle.headertype.specs.declared.Endianness.{Endianness}
 use Rattle.headertype.specs.declared.StandardHeader.{StandardHeader}
 use Rattle.headers.specs.Standard.{standard}
@@ -19,6 +17,7 @@ use Rattle.headers.proofs.Ends.{standard_says}
 use Rattle.worth.specs.Opening.{Opening, opening}
 use Rattle.worth.specs.Invalid.{is_invalid}
 use Rattle.worth.proofs.Ends.{parts}
+use Rattle.std.specs.Prelude.{None}
 
 -- two bytes make a number below 65,536
 two_bytes : (s : List ℕ) (at : ℕ) → ((i : ℕ) → get_or s i 0 < 256) → number_of true 2 s at < 65536
@@ -43,9 +42,9 @@ pub made_by_hand : is_invalid (record {
   endianness = Endianness.Little;
   has_extended_header = false;
   message_counter = 0;
-  ecu_id = OptText.Absent;
-  session_id = OptNum.Absent;
-  timestamp = OptNum.Absent;
+  ecu_id = None;
+  session_id = None;
+  timestamp = None;
   payload_length = 65535;
 }) ≡ true
 unfolding is_invalid overall_length_of all_headers header_type_byte_of

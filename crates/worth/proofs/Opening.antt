@@ -17,7 +17,6 @@ use Rattle.headertype.specs.declared.StandardHeader.{StandardHeader}
 use Rattle.headers.specs.Standard.{standard}
 use Rattle.headers.proofs.Laws.{standard_law}
 use Rattle.storage.specs.Storage.{storage}
-use Rattle.storage.specs.declared.OptStored.{OptStored}
 use Rattle.storage.proofs.Laws.{storage_law}
 use Rattle.filter.specs.declared.Filter.{Filter}
 use Rattle.parse.specs.Message.{having_from, seen, maybe_extended_of, headers_of_lem, finished, headers, routed}
@@ -25,6 +24,8 @@ use Rattle.parse.specs.declared.Headers.{Headers}
 use Rattle.parse.proofs.Nothing.{standard_of_nothing}
 use Rattle.facts.proofs.Laws.{maybe_extended_law}
 use Rattle.worth.specs.Opening.{Opening, opening_behind, opening}
+use Rattle.std.specs.Prelude.{Option, None}
+use Rattle.storage.specs.declared.Stored.{Stored}
 
 -- ---- one rule after another
 module _ {A B C : Type 0} (p : Parser A) (k : A → Parser B) (m : B → Parser C) (s : List ℕ) (at : ℕ) where
@@ -54,14 +55,14 @@ module _ (f : List ℕ) (filter : Filter) where
   unfoldable pub check : Opening → Parser Headers
   check l = having_from l.start (overall_length_of l.header) (seen (headers_of_lem f filter l.stored l.header l.extended))
 
-  finished_is : (o : OptStored) (start : ℕ) (h : StandardHeader) (s : List ℕ) (at : ℕ)
+  finished_is : (o : Option Stored) (start : ℕ) (h : StandardHeader) (s : List ℕ) (at : ℕ)
       → finished f filter o start h s at ≡ ((maybe_extended_of h.has_extended_header >>= (λ e. ret (record { stored = o; start = start; header = h; extended = e }))) >>= check) s at
   unfolding finished check
   finished_is o start h s at =
       sym (assoc (maybe_extended_of h.has_extended_header) _ check s at
       ∙ then_same (maybe_extended_of h.has_extended_header) _ _ s at (λ e b. then_done (ret _) check s b (ret_is _ s b)))
 
-  headers_is : (o : OptStored) (s : List ℕ) (at : ℕ) → headers f filter o s at ≡ (opening_behind o >>= check) s at
+  headers_is : (o : Option Stored) (s : List ℕ) (at : ℕ) → headers f filter o s at ≡ (opening_behind o >>= check) s at
   unfolding headers opening_behind
   headers_is o s at =
       then_done here _ s at (here_is s at)
@@ -73,17 +74,17 @@ module _ (f : List ℕ) (filter : Filter) where
   pub routed_is : (t : Bool) (s : List ℕ) (at : ℕ) → routed f filter t s at ≡ (opening t >>= check) s at
   unfolding routed opening choose
   routed_is true s at = then_same storage _ _ s at (λ o b. headers_is o s b) ∙ sym (assoc storage opening_behind check s at)
-  routed_is false s at = headers_is OptStored.Absent s at
+  routed_is false s at = headers_is None s at
 
 -- ---- the law of steps 2 to 4
-behind_law : (o : OptStored) → Lawful (opening_behind o)
+behind_law : (o : Option Stored) → Lawful (opening_behind o)
 unfolding opening_behind
 behind_law o = search (laws, standard_law, maybe_extended_law) depth 20
 
-pub behind_nothing : (s : List ℕ) → opening_behind OptStored.Absent s (length s) ≡ need 1
+pub behind_nothing : (s : List ℕ) → opening_behind None s (length s) ≡ need 1
 unfolding opening_behind
 behind_nothing s = then_done here _ s (length s) (here_is s (length s)) ∙ then_need standard _ s (length s) (standard_of_nothing s (length s) (omega arith))
 
 pub opening_law : (t : Bool) → Lawful (opening t)
 unfolding opening
-opening_law t = choose_law t _ _ (storage_law opening_behind behind_law behind_nothing) (behind_law OptStored.Absent)
+opening_law t = choose_law t _ _ (storage_law opening_behind behind_law behind_nothing) (behind_law None)

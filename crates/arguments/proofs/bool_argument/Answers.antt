@@ -3,13 +3,13 @@ use Rattle.arguments.proofs.Reading.{arguments-reading}
 use Rattle.arguments.specs.Argument.{boolean}
 use Rattle.arguments.proofs.bool_argument.Goals as goal
 
-pub returns-in-Need : goal.returns-in-Need
+pub returns-in_err-name : goal.returns-in_err-name
 unfolding boolean
-returns-in-Need c = search arguments-reading depth 20
+returns-in_err-name c = search arguments-reading depth 20
 
-pub returns-in-Need-parse_u8 : goal.returns-in-Need-parse_u8
+pub returns-in_err-byte : goal.returns-in_err-byte
 unfolding boolean
-returns-in-Need-parse_u8 c = search arguments-reading depth 20
+returns-in_err-byte c = search arguments-reading depth 20
 
 pub returns : goal.returns
 unfolding boolean

@@ -3,13 +3,9 @@ use Rattle.arguments.proofs.Reading.{arguments-reading}
 use Rattle.arguments.specs.Argument.{argument}
 use Rattle.arguments.proofs.dlt_argument.Goals as goal
 
-pub returns-in-Need : goal.returns-in-Need
+pub returns-in_err-info : goal.returns-in_err-info
 unfolding argument
-returns-in-Need c = search arguments-reading depth 20
-
-pub returns-in-Hickup : goal.returns-in-Hickup
-unfolding argument
-returns-in-Hickup c = search arguments-reading depth 20
+returns-in_err-info c = search arguments-reading depth 20
 
 pub returns : goal.returns
 unfolding argument

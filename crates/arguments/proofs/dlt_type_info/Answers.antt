@@ -3,14 +3,14 @@ use Rattle.arguments.proofs.Reading.{arguments-reading}
 use Rattle.arguments.specs.Argument.{type_info_of}
 use Rattle.arguments.proofs.dlt_type_info.Goals as goal
 
-pub returns-in-Need : goal.returns-in-Need
+pub returns-in_err-word : goal.returns-in_err-word
 unfolding type_info_of
-returns-in-Need c = search arguments-reading depth 20
+returns-in_err-word c = search arguments-reading depth 20
 
-pub returns-in-Accepted : goal.returns-in-Accepted
+pub returns-in_err-info : goal.returns-in_err-info
 unfolding type_info_of
-returns-in-Accepted c = search arguments-reading depth 20
+returns-in_err-info c = search arguments-reading depth 20
 
-pub returns-in-Refused : goal.returns-in-Refused
+pub returns : goal.returns
 unfolding type_info_of
-returns-in-Refused c = search arguments-reading depth 20
+returns c = search arguments-reading depth 20

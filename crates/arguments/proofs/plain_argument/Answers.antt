@@ -3,13 +3,13 @@ use Rattle.arguments.proofs.Reading.{arguments-reading}
 use Rattle.arguments.specs.Argument.{plain}
 use Rattle.arguments.proofs.plain_argument.Goals as goal
 
-pub returns-in-Need : goal.returns-in-Need
+pub returns-in_err-names : goal.returns-in_err-names
 unfolding plain
-returns-in-Need c = search arguments-reading depth 20
+returns-in_err-names c = search arguments-reading depth 20
 
-pub returns-in-Need-number_value : goal.returns-in-Need-number_value
+pub returns-in_err-number : goal.returns-in_err-number
 unfolding plain
-returns-in-Need-number_value c = search arguments-reading depth 20
+returns-in_err-number c = search arguments-reading depth 20
 
 pub returns : goal.returns
 unfolding plain

@@ -3,17 +3,17 @@ use Rattle.arguments.proofs.Reading.{arguments-reading}
 use Rattle.arguments.specs.Argument.{scaled}
 use Rattle.arguments.proofs.scaled_argument.Goals as goal
 
-pub returns-in-Need : goal.returns-in-Need
+pub returns-in_err-names : goal.returns-in_err-names
 unfolding scaled
-returns-in-Need c = search arguments-reading depth 20
+returns-in_err-names c = search arguments-reading depth 20
 
-pub returns-in-Need-dlt_fixed_point : goal.returns-in-Need-dlt_fixed_point
+pub returns-in_err-scale : goal.returns-in_err-scale
 unfolding scaled
-returns-in-Need-dlt_fixed_point c = search arguments-reading depth 20
+returns-in_err-scale c = search arguments-reading depth 20
 
-pub returns-in-Need-number_value : goal.returns-in-Need-number_value
+pub returns-in_err-number : goal.returns-in_err-number
 unfolding scaled
-returns-in-Need-number_value c = search arguments-reading depth 20
+returns-in_err-number c = search arguments-reading depth 20
 
 pub returns : goal.returns
 unfolding scaled

@@ -3,17 +3,17 @@ use Rattle.arguments.proofs.Reading.{arguments-reading}
 use Rattle.arguments.specs.Argument.{sized}
 use Rattle.arguments.proofs.sized_argument.Goals as goal
 
-pub returns-in-Need : goal.returns-in-Need
+pub returns-in_err-size : goal.returns-in_err-size
 unfolding sized
-returns-in-Need c = search arguments-reading depth 20
+returns-in_err-size c = search arguments-reading depth 20
 
-pub returns-in-Need-maybe_variable_name : goal.returns-in-Need-maybe_variable_name
+pub returns-in_err-name : goal.returns-in_err-name
 unfolding sized
-returns-in-Need-maybe_variable_name c = search arguments-reading depth 20
+returns-in_err-name c = search arguments-reading depth 20
 
-pub returns-in-Need-sized_value : goal.returns-in-Need-sized_value
+pub returns-in_err-content : goal.returns-in_err-content
 unfolding sized
-returns-in-Need-sized_value c = search arguments-reading depth 20
+returns-in_err-content c = search arguments-reading depth 20
 
 pub returns : goal.returns
 unfolding sized

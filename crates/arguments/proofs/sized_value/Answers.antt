@@ -3,18 +3,18 @@ use Rattle.arguments.proofs.Reading.{arguments-reading}
 use Rattle.arguments.specs.Argument.{content}
 use Rattle.arguments.proofs.sized_value.Goals as goal
 
-pub returns-in-Need : goal.returns-in-Need
+pub returns-in_err-run : goal.returns-in_err-run
 unfolding content
-returns-in-Need c = search arguments-reading depth 20
+returns-in_err-run c = search arguments-reading depth 20
 
-pub returns-in-Need-dlt_zero_terminated_string_intern : goal.returns-in-Need-dlt_zero_terminated_string_intern
+pub returns-in_err-text : goal.returns-in_err-text
 unfolding content
-returns-in-Need-dlt_zero_terminated_string_intern c = search arguments-reading depth 20
+returns-in_err-text c = search arguments-reading depth 20
 
-pub returns-in-Done : goal.returns-in-Done
+pub returns-in_ok-run : goal.returns-in_ok-run
 unfolding content
-returns-in-Done c = search arguments-reading depth 20
+returns-in_ok-run c = search arguments-reading depth 20
 
-pub returns-in-Done-dlt_zero_terminated_string_intern : goal.returns-in-Done-dlt_zero_terminated_string_intern
+pub returns-in_ok-text : goal.returns-in_ok-text
 unfolding content
-returns-in-Done-dlt_zero_terminated_string_intern c = search arguments-reading depth 20
+returns-in_ok-text c = search arguments-reading depth 20

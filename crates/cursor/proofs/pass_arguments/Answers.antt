@@ -1,31 +1,27 @@
 -- `cursor::pass_arguments` meets its contract. The invariant: the whole is what is left of it at the loop's position.
-use native.Mathlib.Omega.{arith}
 use native.Mathlib.Nat.{sub-zero}
 use mathlib.Core.Path.{sym, ◌∙◌}
-use Rattle.wire.proofs.Step.{told, times_next, times_need, times_hickup, times_none}
-use Rattle.skim.specs.Skim.{skim_ans}
-use Rattle.skim.proofs.Same.{was_done, was_need, was_hickup}
+use Rattle.wire.proofs.Step.{times_next, times_none}
+use Rattle.wire.proofs.Reading.{stop_passed}
+use Rattle.skim.proofs.Same.{was_done}
 use Rattle.cursor.specs.Cursor.{arguments}
+use Rattle.cursor.proofs.Passing.{stops_there}
 use Rattle.cursor.proofs.pass_arguments.Goals as goal
 
-pub loop-i-init : goal.loop-i-init
+pub loop-init : goal.loop-init
 unfolding arguments
-loop-i-init c = (omega arith, rw sub-zero)
+loop-init c = rw sub-zero
 
-pub returns-in-Need : goal.returns-in-Need
-returns-in-Need c =
-    let l = c.loop-i in
-    sym (l.invariant.1 ∙ times_need _ _ _ _ l.i c.loop-i-test.true (was_need _ _ (told skim_ans c.skim_argument.ensures c.in-Need.is)))
+pub returns-in_err-pos : goal.returns-in_err-pos
+returns-in_err-pos c =
+    let e = c.in_err-pos.field-0.0 in
+    let l = c.loop in
+    stop_passed c.from_residual.result e c.from_residual.ensures ∙ sym (l.invariant ∙ stops_there _ _ _ _ l.counter c.loop-test.true e (sym c.in_err-pos.ensures))
 
-pub returns-in-Hickup : goal.returns-in-Hickup
-returns-in-Hickup c =
-    let l = c.loop-i in
-    sym (l.invariant.1 ∙ times_hickup _ _ _ _ l.i c.loop-i-test.true (was_hickup _ _ (told skim_ans c.skim_argument.ensures c.in-Hickup.is)))
-
-pub loop-i-preserved : goal.loop-i-preserved
-loop-i-preserved c =
-    let l = c.loop-i in
-    (omega arith, l.invariant.1 ∙ times_next _ _ _ _ l.i c.loop-i-test.true (was_done _ _ (told skim_ans c.skim_argument.ensures c.in-Done.is)).1)
+pub loop-preserved : goal.loop-preserved
+loop-preserved c =
+    let l = c.loop in
+    l.invariant ∙ times_next _ _ _ _ l.counter c.loop-test.true (was_done _ _ (sym c.in_ok-pos.ensures)).1
 
 pub returns : goal.returns
-returns c = sym (c.loop-i.invariant.1 ∙ times_none _ _ _ _ c.loop-i.i c.loop-i-test.false)
+returns c = sym (c.loop.invariant ∙ times_none _ _ _ _ c.loop.counter c.loop-test.false)

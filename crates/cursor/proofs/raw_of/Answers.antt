@@ -1,12 +1,12 @@
 -- `cursor::raw_of` meets its contract: a value that is none of raw is one of the others.
 use mathlib.Core.Path.{◌≡◌, refl}
-use Rattle.headertype.specs.declared.OptRange.{OptRange}
 use Rattle.dlt.specs.declared.Value.{Value}
 use Rattle.cursor.specs.Raw.{raw_of_lem}
 use Rattle.wire.specs.declared.Range.{Range}
 use Rattle.cursor.proofs.raw_of.Goals as goal
+use Rattle.std.specs.Prelude.{None}
 
-others : (v : Value) → ((x : Range) → v ≡ Value.Raw x → ⊥) → OptRange.Absent ≡ raw_of_lem v
+others : (v : Value) → ((x : Range) → v ≡ Value.Raw x → ⊥) → None ≡ raw_of_lem v
 unfolding raw_of_lem
 others (Value.Bool v) h = refl
 others (Value.U8 v) h = refl

@@ -3,10 +3,10 @@ use Rattle.dlt.proofs.Reading.{dlt-reading}
 use Rattle.dlt.specs.TypeInfoWord.{float_of}
 use Rattle.dlt.proofs.float_kind.Goals as goal
 
-pub returns-in-Present : goal.returns-in-Present
+pub returns-in-Some : goal.returns-in-Some
 unfolding float_of
-returns-in-Present c = search dlt-reading depth 20
+returns-in-Some c = search dlt-reading depth 20
 
-pub returns-in-Absent : goal.returns-in-Absent
+pub returns-in-None : goal.returns-in-None
 unfolding float_of
-returns-in-Absent c = search dlt-reading depth 20
+returns-in-None c = search dlt-reading depth 20

@@ -3,18 +3,18 @@ use Rattle.dlt.proofs.Reading.{dlt-reading}
 use Rattle.dlt.specs.TypeInfoWord.{signed_of}
 use Rattle.dlt.proofs.signed_kind.Goals as goal
 
-pub returns-in-Present : goal.returns-in-Present
+pub returns-in-Some : goal.returns-in-Some
 unfolding signed_of
-returns-in-Present c = search dlt-reading depth 20
+returns-in-Some c = search dlt-reading depth 20
 
-pub returns-in-Absent : goal.returns-in-Absent
+pub returns-in-None : goal.returns-in-None
 unfolding signed_of
-returns-in-Absent c = search dlt-reading depth 20
+returns-in-None c = search dlt-reading depth 20
 
-pub returns-in-Present-type_len : goal.returns-in-Present-type_len
+pub returns-in-Some-type_len : goal.returns-in-Some-type_len
 unfolding signed_of
-returns-in-Present-type_len c = search dlt-reading depth 20
+returns-in-Some-type_len c = search dlt-reading depth 20
 
-pub returns-in-Absent-type_len : goal.returns-in-Absent-type_len
+pub returns-in-None-type_len : goal.returns-in-None-type_len
 unfolding signed_of
-returns-in-Absent-type_len c = search dlt-reading depth 20
+returns-in-None-type_len c = search dlt-reading depth 20

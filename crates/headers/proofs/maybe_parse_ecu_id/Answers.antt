@@ -1,16 +1,16 @@
 -- `headers::maybe_parse_ecu_id` meets its contract: `search` goes through the rule as the code does.
-use Rattle.headers.proofs.Reading.{headers-reading}
+use Rattle.wire.proofs.Reading.{reading}
 use Rattle.headers.specs.Standard.{maybe_id}
 use Rattle.headers.proofs.maybe_parse_ecu_id.Goals as goal
 
-pub returns-in-Done : goal.returns-in-Done
+pub returns-in_err-id : goal.returns-in_err-id
 unfolding maybe_id
-returns-in-Done c = search headers-reading depth 20
+returns-in_err-id c = search reading depth 20
 
-pub returns-in-Need : goal.returns-in-Need
+pub returns-in_ok-id : goal.returns-in_ok-id
 unfolding maybe_id
-returns-in-Need c = search headers-reading depth 20
+returns-in_ok-id c = search reading depth 20
 
 pub returns-else-present : goal.returns-else-present
 unfolding maybe_id
-returns-else-present c = search headers-reading depth 20
+returns-else-present c = search reading depth 20

@@ -1,16 +1,16 @@
 -- `headers::maybe_parse_u32` meets its contract: `search` goes through the rule as the code does.
-use Rattle.headers.proofs.Reading.{headers-reading}
+use Rattle.wire.proofs.Reading.{reading}
 use Rattle.headers.specs.Standard.{maybe_number_of}
 use Rattle.headers.proofs.maybe_parse_u32.Goals as goal
 
-pub returns-in-Done : goal.returns-in-Done
+pub returns-in_err-num : goal.returns-in_err-num
 unfolding maybe_number_of
-returns-in-Done c = search headers-reading depth 20
+returns-in_err-num c = search reading depth 20
 
-pub returns-in-Need : goal.returns-in-Need
+pub returns-in_ok-num : goal.returns-in_ok-num
 unfolding maybe_number_of
-returns-in-Need c = search headers-reading depth 20
+returns-in_ok-num c = search reading depth 20
 
 pub returns-else-present : goal.returns-else-present
 unfolding maybe_number_of
-returns-else-present c = search headers-reading depth 20
+returns-else-present c = search reading depth 20

@@ -1,12 +1,12 @@
 -- `headers::parse_length` meets its contract: `search` goes through the rule as the code does.
-use Rattle.headers.proofs.Reading.{headers-reading}
+use Rattle.wire.proofs.Reading.{reading}
 use Rattle.headers.specs.Standard.{declared}
 use Rattle.headers.proofs.parse_length.Goals as goal
 
-pub returns-in-Done : goal.returns-in-Done
+pub returns-in_err-before : goal.returns-in_err-before
 unfolding declared
-returns-in-Done c = search headers-reading depth 20
+returns-in_err-before c = search reading depth 20
 
-pub returns-in-Need : goal.returns-in-Need
+pub returns : goal.returns
 unfolding declared
-returns-in-Need c = search headers-reading depth 20
+returns c = search reading depth 20

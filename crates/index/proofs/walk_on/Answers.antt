@@ -1,5 +1,5 @@
 -- `index::walk_on` meets its contract. The loop keeps what the call will leave (`Kept`): each need about the walk is one of the laws of walk's
-use Prim.Native.Nat.{◌+◌, ◌≤◌}
+use Prim.Native.Nat.{ℕ, ◌+◌, ◌≤◌}
 use mathlib.Core.Path.{◌≡◌, refl, sym, ap, ◌∙◌}
 use native.Mathlib.Omega.{arith}
 use lib.ListN.{length, drop, length-drop}
@@ -7,7 +7,8 @@ use Rattle.walk.specs.Walk.{Take}
 use Rattle.walk.proofs.Going.{ends_waiting, ends_full, ends_paused}
 use Rattle.step.specs.Step.{asked, step_of}
 use Rattle.step.proofs.Fair.{fair}
-use Rattle.index.specs.Index.{flat_form}
+use Rattle.index.specs.Index.{flat_form, stopped}
+use Rattle.index.specs.declared.End.{End}
 use Rattle.index.proofs.Laws.{starts, turns, no_turn, turned, ends_so, with_answer}
 use Rattle.index.proofs.Flat.{flat_sound}
 use Rattle.index.proofs.walk_on.Goals as goal
@@ -53,17 +54,11 @@ put-requires c = omega arith
 pub overflow_add-used : goal.overflow_add-used
 overflow_add-used c = omega arith
 
-pub overflow_add-taken : goal.overflow_add-taken
-overflow_add-taken c = omega arith
-
 pub overflow_add-at : goal.overflow_add-at
 overflow_add-at c = omega (arith, lies (goal.at.overflow_add-at c).In-Take)
 
 pub overflow_add-at-in-Take : goal.overflow_add-at-in-Take
 overflow_add-at-in-Take c = omega (arith, lies (goal.at.overflow_add-at-in-Take c).In-Take)
-
-pub loop-taken-smaller : goal.loop-taken-smaller
-loop-taken-smaller c = omega (arith, lies (goal.at.loop-taken-smaller c).In-Take)
 
 pub loop-taken-preserved : goal.loop-taken-preserved
 loop-taken-preserved c = turned flat_form _ _ _ _ _ _ _ _ c.loop-taken.invariant flat_sound (omega arith) (takes (goal.at.loop-taken-preserved c).In-Take) (omega arith) (omega arith) _ c.put.ensures
@@ -71,7 +66,9 @@ loop-taken-preserved c = turned flat_form _ _ _ _ _ _ _ _ c.loop-taken.invariant
 pub returns : goal.returns
 returns c =
     let kept = c.loop-taken.invariant in
+    let all : c.loop-taken.taken ≡ c.args.n = omega arith in
     ends_so flat_form _ _ _ _ _ _
     (ends_paused 4 flat_form.cells (λ e. refl) (asked _ _) (fair _ _) _ _ _ _ _ _ (no_turn flat_form _ _ _ _ _ _ _ _ kept (omega arith)))
     kept.counted
+    ∙ ap (λ (k : ℕ). record { answer = stopped (c.args.state.at + c.loop-taken.at) c.loop-taken.used k End.Paused; table = c.loop-taken.table }) all
     ∙ with_answer _ c.paused.ensures

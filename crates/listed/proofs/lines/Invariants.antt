@@ -1,11 +1,10 @@
--- `lines` ends, since each turn leaves one entry less, and so far it has written the lines of the first i.
-use Rattle.std.proofs.Common.{◌-◌, ◌≤◌, take}
+-- What was written, and the lines of the entries left, are the lines of all.
+use Rattle.std.proofs.Common.{◌≡◌, List, ℕ, ◌++◌, take}
 use Rattle.std.specs.Io.KnownBytes.{Appends}
 use Rattle.listed.specs.Listing.{entry_lines, entries_in}
 use Rattle.listed.proofs.lines.Given as goal
 
-abbrev pub invariant-loop-i : goal.invariant-loop-i
-invariant-loop-i g l = (l.i ≤ l.used) × Appends (g.W.Write.contents l.initial.out) (g.W.Write.contents l.out) (entry_lines (take l.i (entries_in l.table)))
-
-abbrev pub decreases-loop-i : goal.decreases-loop-i
-decreases-loop-i g l = l.used - l.i
+abbrev pub invariant-loop-e : goal.invariant-loop-e
+invariant-loop-e g l = (done : List ℕ) × Appends (g.W.Write.contents l.initial.out) (g.W.Write.contents l.out) done
+    × (done ++ entry_lines (take l.e-iterator.n (entries_in l.e-iterator.iter.rest.now)) ≡ entry_lines (take l.fn.used (entries_in l.fn.table)))
+    × (l.e-iterator.iter.size ≡ 4)

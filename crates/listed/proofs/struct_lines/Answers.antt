@@ -1,12 +1,23 @@
--- Each turn writes the line of one entry more.
-use Rattle.std.proofs.Common.{rules, sym, subst}
+-- Each turn writes the line of the entry that comes.
+use Rattle.std.proofs.Common.{[], refl, subst}
 use Rattle.std.specs.Io.KnownBytes.{Appends}
 use Rattle.std.proofs.KnownBytes.{Appends-nil, Appends-trans}
-use Rattle.listed.proofs.Rows.{no_lines, one_more}
+use Rattle.listed.specs.Listing.{entry_line}
+use Rattle.listed.proofs.Rows.{next_line, last_line}
 use Rattle.listed.proofs.struct_lines.Goals as goal
 
-pub loop-i-init : goal.loop-i-init
-loop-i-init g c = (search rules, subst (Appends _ _) (sym no_lines) (Appends-nil _))
+pub loop-e-init : goal.loop-e-init
+loop-e-init g c =
+    let all = c.take-e-items.ensures in
+    ([], Appends-nil _, rw (c.into_iter-e-iterator.ensures.into_iter_gives, all.count, all.source, c.iter.ensures.rest) refl)
 
-pub loop-i-preserved : goal.loop-i-preserved
-loop-i-preserved g c = (search rules, subst (Appends _ _) (sym (one_more c.args.table c.loop-i.i _ (search rules))) (Appends-trans _ _ _ _ _ c.loop-i.invariant.1 c.in_ok-line.ensures))
+pub loop-e-preserved : goal.loop-e-preserved
+loop-e-preserved g c =
+    let kept = c.loop-e.invariant in
+    let step = c.in-Some.ensures.steps in
+    (_, Appends-trans _ _ _ _ (entry_line c.in-Some.e.now) kept.1 c.in_ok-line.ensures, next_line _ _ _ _ _ _ _ step.0 step.1 kept.2)
+
+pub returns : goal.returns
+returns g c =
+    let kept = c.loop-e.invariant in
+    subst (Appends _ _) (last_line _ _ _ _ (λ h. (c.in-None.ensures.steps h).0) kept.2) kept.1

@@ -1,12 +1,12 @@
 -- `names::dlt_variable_name` meets its contract: `search` goes through the rule as the code does.
-use Rattle.names.proofs.Reading.{names-reading}
+use Rattle.wire.proofs.Reading.{reading}
 use Rattle.names.specs.Names.{name}
 use Rattle.names.proofs.dlt_variable_name.Goals as goal
 
-pub returns-in-Done : goal.returns-in-Done
+pub returns-in_err-size : goal.returns-in_err-size
 unfolding name
-returns-in-Done c = search names-reading depth 20
+returns-in_err-size c = search reading depth 20
 
-pub returns-in-Need : goal.returns-in-Need
+pub returns : goal.returns
 unfolding name
-returns-in-Need c = search names-reading depth 20
+returns c = search reading depth 20

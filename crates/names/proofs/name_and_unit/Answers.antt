@@ -1,16 +1,16 @@
 -- `names::name_and_unit` meets its contract: `search` goes through the rule as the code does.
-use Rattle.names.proofs.Reading.{names-reading}
+use Rattle.wire.proofs.Reading.{reading}
 use Rattle.names.specs.Names.{name_and_unit_of}
 use Rattle.names.proofs.name_and_unit.Goals as goal
 
-pub returns-in-Need : goal.returns-in-Need
+pub returns-in_err-name_size : goal.returns-in_err-name_size
 unfolding name_and_unit_of
-returns-in-Need c = search names-reading depth 20
+returns-in_err-name_size c = search reading depth 20
 
-pub returns-in-Need-parse_u16 : goal.returns-in-Need-parse_u16
+pub returns-in_err-unit_size : goal.returns-in_err-unit_size
 unfolding name_and_unit_of
-returns-in-Need-parse_u16 c = search names-reading depth 20
+returns-in_err-unit_size c = search reading depth 20
 
 pub returns : goal.returns
 unfolding name_and_unit_of
-returns c = search names-reading depth 20
+returns c = search reading depth 20

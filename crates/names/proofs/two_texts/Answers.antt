@@ -1,16 +1,16 @@
 -- `names::two_texts` meets its contract: `search` goes through the rule as the code does.
-use Rattle.names.proofs.Reading.{names-reading}
+use Rattle.wire.proofs.Reading.{reading}
 use Rattle.names.specs.Names.{texts}
 use Rattle.names.proofs.two_texts.Goals as goal
 
-pub returns-in-Need : goal.returns-in-Need
+pub returns-in_err-name : goal.returns-in_err-name
 unfolding texts
-returns-in-Need c = search names-reading depth 20
+returns-in_err-name c = search reading depth 20
 
-pub returns-in-Need-dlt_zero_terminated_string_intern : goal.returns-in-Need-dlt_zero_terminated_string_intern
+pub returns-in_err-unit : goal.returns-in_err-unit
 unfolding texts
-returns-in-Need-dlt_zero_terminated_string_intern c = search names-reading depth 20
+returns-in_err-unit c = search reading depth 20
 
 pub returns : goal.returns
 unfolding texts
-returns c = search names-reading depth 20
+returns c = search reading depth 20

@@ -2,8 +2,8 @@
 use Rattle.numbers.proofs.Outlined.{outlined}
 use Rattle.numbers.proofs.any_id_at.Goals as goal
 
-pub returns-in-Done : goal.returns-in-Done
-returns-in-Done c = search outlined depth 20
+pub returns-in-Ok : goal.returns-in-Ok
+returns-in-Ok c = search outlined depth 20
 
-pub returns-in-Need : goal.returns-in-Need
-returns-in-Need c = search outlined depth 20
+pub returns-in-Err : goal.returns-in-Err
+returns-in-Err c = search outlined depth 20

@@ -3,10 +3,10 @@ use Rattle.numbers.proofs.Rows.{rows}
 use Rattle.numbers.specs.Layout.{num_numbers}
 use Rattle.numbers.proofs.put_num.Goals as goal
 
-pub returns-in-Present : goal.returns-in-Present
+pub returns-in-Some : goal.returns-in-Some
 unfolding num_numbers
-returns-in-Present c = search rows depth 20
+returns-in-Some c = search rows depth 20
 
-pub returns-in-Absent : goal.returns-in-Absent
+pub returns-in-None : goal.returns-in-None
 unfolding num_numbers
-returns-in-Absent c = search rows depth 20
+returns-in-None c = search rows depth 20

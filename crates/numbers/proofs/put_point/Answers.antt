@@ -2,8 +2,8 @@
 use Rattle.numbers.proofs.Groups.{groups}
 use Rattle.numbers.proofs.put_point.Goals as goal
 
-pub returns-in-Present : goal.returns-in-Present
-returns-in-Present c = search groups depth 20
+pub returns-in-Some : goal.returns-in-Some
+returns-in-Some c = search groups depth 20
 
-pub returns-in-Absent : goal.returns-in-Absent
-returns-in-Absent c = search groups depth 20
+pub returns-in-None : goal.returns-in-None
+returns-in-None c = search groups depth 20

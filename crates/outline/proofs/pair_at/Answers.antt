@@ -2,8 +2,8 @@
 use Rattle.outline.proofs.Reading.{glancing}
 use Rattle.outline.proofs.pair_at.Goals as goal
 
-pub returns-in-Done : goal.returns-in-Done
-returns-in-Done c = search glancing depth 20
+pub returns-in-Ok : goal.returns-in-Ok
+returns-in-Ok c = search glancing depth 20
 
-pub returns-in-Need : goal.returns-in-Need
-returns-in-Need c = search glancing depth 20
+pub returns-in-Err : goal.returns-in-Err
+returns-in-Err c = search glancing depth 20

@@ -3,10 +3,10 @@ use Rattle.payload.proofs.Reading.{tables}
 use Rattle.payload.specs.Payload.{count_of}
 use Rattle.payload.proofs.count_of.Goals as goal
 
-pub returns-in-Present : goal.returns-in-Present
+pub returns-in-Some : goal.returns-in-Some
 unfolding count_of
-returns-in-Present c = search tables depth 20
+returns-in-Some c = search tables depth 20
 
-pub returns-in-Absent : goal.returns-in-Absent
+pub returns-in-None : goal.returns-in-None
 unfolding count_of
-returns-in-Absent c = search tables depth 20
+returns-in-None c = search tables depth 20

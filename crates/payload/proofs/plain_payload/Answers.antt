@@ -3,17 +3,17 @@ use Rattle.payload.proofs.Reading.{payload-reading}
 use Rattle.payload.specs.Payload.{plain}
 use Rattle.payload.proofs.plain_payload.Goals as goal
 
-pub returns-in-Need : goal.returns-in-Need
+pub returns-in_err-id : goal.returns-in_err-id
 unfolding plain
-returns-in-Need c = search payload-reading depth 20
+returns-in_err-id c = search payload-reading depth 20
 
-pub returns-in-Need-take : goal.returns-in-Need-take
+pub returns-in_err-rest : goal.returns-in_err-rest
 unfolding plain
-returns-in-Need-take c = search payload-reading depth 20
+returns-in_err-rest c = search payload-reading depth 20
 
-pub returns-in-Done-take : goal.returns-in-Done-take
+pub returns-in_ok-rest : goal.returns-in_ok-rest
 unfolding plain
-returns-in-Done-take c = search payload-reading depth 20
+returns-in_ok-rest c = search payload-reading depth 20
 
 pub returns-else-n-ge4 : goal.returns-else-n-ge4
 unfolding plain

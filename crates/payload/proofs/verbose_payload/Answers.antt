@@ -3,13 +3,9 @@ use Rattle.payload.proofs.Reading.{payload-reading}
 use Rattle.payload.specs.Payload.{verbose}
 use Rattle.payload.proofs.verbose_payload.Goals as goal
 
-pub returns-in-Need : goal.returns-in-Need
+pub returns-in_err-end : goal.returns-in_err-end
 unfolding verbose
-returns-in-Need c = search payload-reading depth 20
-
-pub returns-in-Hickup : goal.returns-in-Hickup
-unfolding verbose
-returns-in-Hickup c = search payload-reading depth 20
+returns-in_err-end c = search payload-reading depth 20
 
 pub returns : goal.returns
 unfolding verbose

@@ -1,13 +1,13 @@
 -- `reals::parse_f32` meets its contract: `search` goes through the rule as the code does.
-use Rattle.reals.proofs.Reading.{reals-reading}
+use Rattle.wire.proofs.Reading.{reading}
 use Rattle.wire.specs.Number.{numeric}
 use Rattle.reals.specs.Real.{float32}
 use Rattle.reals.proofs.parse_f32.Goals as goal
 
-pub returns-in-Done : goal.returns-in-Done
+pub returns-in_err-bits : goal.returns-in_err-bits
 unfolding float32 numeric
-returns-in-Done c = search reals-reading depth 20
+returns-in_err-bits c = search reading depth 20
 
-pub returns-in-Need : goal.returns-in-Need
+pub returns : goal.returns
 unfolding float32 numeric
-returns-in-Need c = search reals-reading depth 20
+returns c = search reading depth 20

@@ -5,10 +5,10 @@ use Rattle.rewritten.specs.Written.{written, nothing_read}
 use Rattle.rewritten.proofs.Whole.{on_ok, all_of}
 use Rattle.rewritten.proofs.rewrite.Goals as goal
 
-pub returns-in-Bytes : goal.returns-in-Bytes
-returns-in-Bytes g c =
-    let read = c.in-Bytes.ensures in
-    on_ok c.show_first.result (λ grown. (written _, all_of _ c.gather.new.buf c.in-Bytes.n (search rules) read.0 read.1, grown)) (c.show_first.ensures read.0)
+pub returns-in-Ok : goal.returns-in-Ok
+returns-in-Ok g c =
+    let read = c.in-Ok.ensures in
+    on_ok c.show_first.result (λ grown. (written _, all_of _ c.gather.new.buf c.in-Ok.n (search rules) read.0 read.1, grown)) (c.show_first.ensures read.0)
 
-pub returns-in-Failed : goal.returns-in-Failed
-returns-in-Failed g c = on_ok c.unreadable.result (λ grown. (nothing_read, inr refl, (Appends-nil _, grown))) c.unreadable.ensures
+pub returns-in-Err : goal.returns-in-Err
+returns-in-Err g c = on_ok c.unreadable.result (λ grown. (nothing_read, inr refl, (Appends-nil _, grown))) c.unreadable.ensures

@@ -3,10 +3,10 @@ use Rattle.signals.proofs.Reading.{contents}
 use Rattle.signals.specs.Signal.{content}
 use Rattle.signals.proofs.bool_content.Goals as goal
 
-pub returns-in-Done : goal.returns-in-Done
+pub returns-in_err-byte : goal.returns-in_err-byte
 unfolding content
-returns-in-Done c = search contents depth 20
+returns-in_err-byte c = search contents depth 20
 
-pub returns-in-Need : goal.returns-in-Need
+pub returns : goal.returns
 unfolding content
-returns-in-Need c = search contents depth 20
+returns c = search contents depth 20

@@ -3,18 +3,6 @@ use Rattle.signals.proofs.Reading.{contents}
 use Rattle.signals.specs.Signal.{content}
 use Rattle.signals.proofs.content_of.Goals as goal
 
-pub returns-in-StringType : goal.returns-in-StringType
-unfolding content
-returns-in-StringType c = search contents depth 20
-
-pub returns-in-Raw : goal.returns-in-Raw
-unfolding content
-returns-in-Raw c = search contents depth 20
-
-pub returns-in-Bool : goal.returns-in-Bool
-unfolding content
-returns-in-Bool c = search contents depth 20
-
 pub returns-in-Float : goal.returns-in-Float
 unfolding content
 returns-in-Float c = search contents depth 20

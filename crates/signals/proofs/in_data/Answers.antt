@@ -3,13 +3,9 @@ use Rattle.signals.proofs.Reading.{contents}
 use Rattle.signals.specs.Signal.{in_data_of}
 use Rattle.signals.proofs.in_data.Goals as goal
 
-pub returns-in-Need : goal.returns-in-Need
+pub returns-in_err-content : goal.returns-in_err-content
 unfolding in_data_of
-returns-in-Need c = search contents depth 20
-
-pub returns-in-Hickup : goal.returns-in-Hickup
-unfolding in_data_of
-returns-in-Hickup c = search contents depth 20
+returns-in_err-content c = search contents depth 20
 
 pub returns : goal.returns
 unfolding in_data_of

@@ -3,14 +3,14 @@ use Rattle.signals.proofs.Reading.{contents}
 use Rattle.signals.specs.Signal.{content}
 use Rattle.signals.proofs.raw_content.Goals as goal
 
-pub returns-in-Need : goal.returns-in-Need
+pub returns-in_err-size : goal.returns-in_err-size
 unfolding content
-returns-in-Need c = search contents depth 20
+returns-in_err-size c = search contents depth 20
 
-pub returns-in-Done-take : goal.returns-in-Done-take
+pub returns-in_err-run : goal.returns-in_err-run
 unfolding content
-returns-in-Done-take c = search contents depth 20
+returns-in_err-run c = search contents depth 20
 
-pub returns-in-Need-take : goal.returns-in-Need-take
+pub returns : goal.returns
 unfolding content
-returns-in-Need-take c = search contents depth 20
+returns c = search contents depth 20

@@ -2,14 +2,14 @@
 use Rattle.signals.proofs.Reading.{one-signal}
 use Rattle.signals.proofs.signal_at.Goals as goal
 
-pub returns-in-Done : goal.returns-in-Done
-returns-in-Done c = search one-signal depth 20
+pub returns-in_err-info : goal.returns-in_err-info
+returns-in_err-info c = search one-signal depth 20
 
-pub returns-in-Need : goal.returns-in-Need
-returns-in-Need c = search one-signal depth 20
+pub returns-in-Ok : goal.returns-in-Ok
+returns-in-Ok c = search one-signal depth 20
 
-pub returns-in-Hickup : goal.returns-in-Hickup
-returns-in-Hickup c = search one-signal depth 20
+pub returns-in-Err-Need : goal.returns-in-Err-Need
+returns-in-Err-Need c = search one-signal depth 20
 
-pub returns-in-Refused : goal.returns-in-Refused
-returns-in-Refused c = search one-signal depth 20
+pub returns-in-Err-Hickup : goal.returns-in-Err-Hickup
+returns-in-Err-Hickup c = search one-signal depth 20

@@ -2,8 +2,8 @@
 use Rattle.signed.proofs.Reading.{signed-reading}
 use Rattle.signed.proofs.parse_i128.Goals as goal
 
-pub returns-in-Done : goal.returns-in-Done
-returns-in-Done c = search signed-reading depth 20
+pub returns-in_err-bits : goal.returns-in_err-bits
+returns-in_err-bits c = search signed-reading depth 20
 
-pub returns-in-Need : goal.returns-in-Need
-returns-in-Need c = search signed-reading depth 20
+pub returns : goal.returns
+returns c = search signed-reading depth 20

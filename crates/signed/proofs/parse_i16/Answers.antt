@@ -4,10 +4,10 @@ use Rattle.wire.specs.Number.{numeric}
 use Rattle.signed.specs.Twos.{signed}
 use Rattle.signed.proofs.parse_i16.Goals as goal
 
-pub returns-in-Done : goal.returns-in-Done
+pub returns-in_err-bits : goal.returns-in_err-bits
 unfolding signed numeric
-returns-in-Done c = search signed-reading depth 20
+returns-in_err-bits c = search signed-reading depth 20
 
-pub returns-in-Need : goal.returns-in-Need
+pub returns : goal.returns
 unfolding signed numeric
-returns-in-Need c = search signed-reading depth 20
+returns c = search signed-reading depth 20

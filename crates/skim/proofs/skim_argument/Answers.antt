@@ -2,8 +2,8 @@
 use Rattle.skim.proofs.Reading.{skim-reading}
 use Rattle.skim.proofs.skim_argument.Goals as goal
 
-pub returns-in-Done : goal.returns-in-Done
-returns-in-Done c = search skim-reading depth 20
+pub returns-in_err-word : goal.returns-in_err-word
+returns-in_err-word c = search skim-reading depth 20
 
-pub returns-in-Need : goal.returns-in-Need
-returns-in-Need c = search skim-reading depth 20
+pub returns : goal.returns
+returns c = search skim-reading depth 20

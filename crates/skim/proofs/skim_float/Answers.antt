@@ -9,4 +9,4 @@ returns-in-4 c = search skim-reading depth 20
 
 pub returns-in_default : goal.returns-in_default
 unfolding skim_float_of
-returns-in_default c = search (skim-reading, c.in_default.in_default-own.rest.1) depth 20
+returns-in_default c = search skim-reading depth 20

@@ -3,22 +3,14 @@ use Rattle.skim.proofs.Reading.{skim-reading}
 use Rattle.skim.specs.Skim.{skim_scaled_of}
 use Rattle.skim.proofs.skim_scaled.Goals as goal
 
-pub returns-in-Need : goal.returns-in-Need
+pub returns-in_err-names : goal.returns-in_err-names
 unfolding skim_scaled_of
-returns-in-Need c = search skim-reading depth 20
+returns-in_err-names c = search skim-reading depth 20
 
-pub returns-in-Hickup : goal.returns-in-Hickup
+pub returns-in_err-next : goal.returns-in_err-next
 unfolding skim_scaled_of
-returns-in-Hickup c = search skim-reading depth 20
+returns-in_err-next c = search skim-reading depth 20
 
-pub returns-in-Done-skim_point : goal.returns-in-Done-skim_point
+pub returns : goal.returns
 unfolding skim_scaled_of
-returns-in-Done-skim_point c = search skim-reading depth 20
-
-pub returns-in-Need-skim_point : goal.returns-in-Need-skim_point
-unfolding skim_scaled_of
-returns-in-Need-skim_point c = search skim-reading depth 20
-
-pub returns-in-Hickup-skim_point : goal.returns-in-Hickup-skim_point
-unfolding skim_scaled_of
-returns-in-Hickup-skim_point c = search skim-reading depth 20
+returns c = search skim-reading depth 20

@@ -3,18 +3,14 @@ use Rattle.skim.proofs.Reading.{skim-reading}
 use Rattle.skim.specs.Skim.{skim_string_of}
 use Rattle.skim.proofs.skim_string.Goals as goal
 
-pub returns-in-Need : goal.returns-in-Need
+pub returns-in_err-size : goal.returns-in_err-size
 unfolding skim_string_of
-returns-in-Need c = search skim-reading depth 20
+returns-in_err-size c = search skim-reading depth 20
 
-pub returns-in-Done-skim_name : goal.returns-in-Done-skim_name
+pub returns-in_err-next : goal.returns-in_err-next
 unfolding skim_string_of
-returns-in-Done-skim_name c = search skim-reading depth 20
+returns-in_err-next c = search skim-reading depth 20
 
-pub returns-in-Need-skim_name : goal.returns-in-Need-skim_name
+pub returns : goal.returns
 unfolding skim_string_of
-returns-in-Need-skim_name c = search skim-reading depth 20
-
-pub returns-in-Hickup : goal.returns-in-Hickup
-unfolding skim_string_of
-returns-in-Hickup c = search skim-reading depth 20
+returns c = search skim-reading depth 20

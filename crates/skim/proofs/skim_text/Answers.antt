@@ -5,8 +5,8 @@ use Rattle.skim.proofs.skim_text.Goals as goal
 pub returns-then-size-rest : goal.returns-then-size-rest
 returns-then-size-rest c = search skim-reading depth 20
 
-pub returns-in-Done : goal.returns-in-Done
-returns-in-Done c = search skim-reading depth 20
+pub returns-in_err-all : goal.returns-in_err-all
+returns-in_err-all c = search skim-reading depth 20
 
-pub returns-in-Need : goal.returns-in-Need
-returns-in-Need c = search skim-reading depth 20
+pub returns : goal.returns
+returns c = search skim-reading depth 20

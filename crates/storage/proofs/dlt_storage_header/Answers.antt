@@ -9,8 +9,8 @@ returns-then-rest-lt16 c = search storage-reading depth 20
 pub overflow_sub-i : goal.overflow_sub-i
 overflow_sub-i c = search (rules, place_from)
 
-pub returns-in-At : goal.returns-in-At
-returns-in-At c = search storage-reading depth 20
+pub returns-in-Some : goal.returns-in-Some
+returns-in-Some c = search storage-reading depth 20
 
-pub returns-in-Nothing : goal.returns-in-Nothing
-returns-in-Nothing c = search storage-reading depth 20
+pub returns-in-None : goal.returns-in-None
+returns-in-None c = search storage-reading depth 20

@@ -3,9 +3,9 @@ use Rattle.storage.proofs.Reading.{storage-reading}
 use Rattle.storage.specs.Storage.{owned, stored_of}
 use Rattle.storage.proofs.owned_fields.Goals as goal
 
-pub returns-in-Need : goal.returns-in-Need
+pub returns-in_err-ecu : goal.returns-in_err-ecu
 unfolding owned stored_of
-returns-in-Need c = search storage-reading depth 20
+returns-in_err-ecu c = search storage-reading depth 20
 
 pub returns : goal.returns
 unfolding owned stored_of

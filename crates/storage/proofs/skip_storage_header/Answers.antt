@@ -3,26 +3,18 @@ use Rattle.storage.proofs.Reading.{storage-reading}
 use Rattle.storage.specs.Consume.{skip}
 use Rattle.storage.proofs.skip_storage_header.Goals as goal
 
-pub returns-in-Need : goal.returns-in-Need
+pub returns-in_err-letters : goal.returns-in_err-letters
 unfolding skip
-returns-in-Need c = search storage-reading depth 20
+returns-in_err-letters c = search storage-reading depth 20
 
-pub returns-in-Hickup : goal.returns-in-Hickup
+pub returns-in_err-one : goal.returns-in_err-one
 unfolding skip
-returns-in-Hickup c = search storage-reading depth 20
+returns-in_err-one c = search storage-reading depth 20
 
-pub returns-in-Need-tag : goal.returns-in-Need-tag
+pub returns-in_err-rest : goal.returns-in_err-rest
 unfolding skip
-returns-in-Need-tag c = search storage-reading depth 20
+returns-in_err-rest c = search storage-reading depth 20
 
-pub returns-in-Hickup-tag : goal.returns-in-Hickup-tag
+pub returns : goal.returns
 unfolding skip
-returns-in-Hickup-tag c = search storage-reading depth 20
-
-pub returns-in-Done-take : goal.returns-in-Done-take
-unfolding skip
-returns-in-Done-take c = search storage-reading depth 20
-
-pub returns-in-Need-take : goal.returns-in-Need-take
-unfolding skip
-returns-in-Need-take c = search storage-reading depth 20
+returns c = search storage-reading depth 20

@@ -3,17 +3,17 @@ use Rattle.storage.proofs.Reading.{storage-reading}
 use Rattle.storage.specs.Storage.{stored}
 use Rattle.storage.proofs.stored_fields.Goals as goal
 
-pub returns-in-Need : goal.returns-in-Need
+pub returns-in_err-mark : goal.returns-in_err-mark
 unfolding stored
-returns-in-Need c = search storage-reading depth 20
+returns-in_err-mark c = search storage-reading depth 20
 
-pub returns-in-Need-parse_u32 : goal.returns-in-Need-parse_u32
+pub returns-in_err-seconds : goal.returns-in_err-seconds
 unfolding stored
-returns-in-Need-parse_u32 c = search storage-reading depth 20
+returns-in_err-seconds c = search storage-reading depth 20
 
-pub returns-in-Need-parse_u32-2 : goal.returns-in-Need-parse_u32-2
+pub returns-in_err-micros : goal.returns-in_err-micros
 unfolding stored
-returns-in-Need-parse_u32-2 c = search storage-reading depth 20
+returns-in_err-micros c = search storage-reading depth 20
 
 pub returns : goal.returns
 unfolding stored

@@ -3,18 +3,14 @@ use Rattle.storage.proofs.Reading.{storage-reading}
 use Rattle.storage.specs.Consume.{whole}
 use Rattle.storage.proofs.whole_message.Goals as goal
 
-pub returns-in-Need : goal.returns-in-Need
+pub returns-in_err-standard : goal.returns-in_err-standard
 unfolding whole
-returns-in-Need c = search storage-reading depth 20
+returns-in_err-standard c = search storage-reading depth 20
 
-pub returns-in-Hickup : goal.returns-in-Hickup
+pub returns-in_err-message : goal.returns-in_err-message
 unfolding whole
-returns-in-Hickup c = search storage-reading depth 20
+returns-in_err-message c = search storage-reading depth 20
 
-pub returns-in-Done-take : goal.returns-in-Done-take
+pub returns : goal.returns
 unfolding whole
-returns-in-Done-take c = search storage-reading depth 20
-
-pub returns-in-Need-take : goal.returns-in-Need-take
-unfolding whole
-returns-in-Need-take c = search storage-reading depth 20
+returns c = search storage-reading depth 20

@@ -2,14 +2,14 @@
 use Rattle.values.proofs.Reading.{floats}
 use Rattle.values.proofs.dlt_fint.Goals as goal
 
-pub returns-in-Done : goal.returns-in-Done
-returns-in-Done c = search floats depth 20
+pub returns-in_err-num-in-Width32 : goal.returns-in_err-num-in-Width32
+returns-in_err-num-in-Width32 c = search floats depth 20
 
-pub returns-in-Need : goal.returns-in-Need
-returns-in-Need c = search floats depth 20
+pub returns-in_err-num-in-Width64 : goal.returns-in_err-num-in-Width64
+returns-in_err-num-in-Width64 c = search floats depth 20
 
-pub returns-in-Done-parse_f64 : goal.returns-in-Done-parse_f64
-returns-in-Done-parse_f64 c = search floats depth 20
+pub returns-in_ok-num-in-Width32 : goal.returns-in_ok-num-in-Width32
+returns-in_ok-num-in-Width32 c = search floats depth 20
 
-pub returns-in-Need-parse_f64 : goal.returns-in-Need-parse_f64
-returns-in-Need-parse_f64 c = search floats depth 20
+pub returns-in_ok-num-in-Width64 : goal.returns-in_ok-num-in-Width64
+returns-in_ok-num-in-Width64 c = search floats depth 20

@@ -3,22 +3,22 @@ use Rattle.values.proofs.Reading.{points}
 use Rattle.values.specs.Value.{fixed_point_of}
 use Rattle.values.proofs.dlt_fixed_point.Goals as goal
 
-pub returns-in-Need : goal.returns-in-Need
+pub returns-in_err-bits : goal.returns-in_err-bits
 unfolding fixed_point_of
-returns-in-Need c = search points depth 20
+returns-in_err-bits c = search points depth 20
 
-pub returns-in-Done-parse_i32 : goal.returns-in-Done-parse_i32
+pub returns-in_err-offset-in-Width32 : goal.returns-in_err-offset-in-Width32
 unfolding fixed_point_of
-returns-in-Done-parse_i32 c = search points depth 20
+returns-in_err-offset-in-Width32 c = search points depth 20
 
-pub returns-in-Need-parse_i32 : goal.returns-in-Need-parse_i32
+pub returns-in_err-offset-in-Width64 : goal.returns-in_err-offset-in-Width64
 unfolding fixed_point_of
-returns-in-Need-parse_i32 c = search points depth 20
+returns-in_err-offset-in-Width64 c = search points depth 20
 
-pub returns-in-Done-parse_i64 : goal.returns-in-Done-parse_i64
+pub returns-in_ok-offset-in-Width32 : goal.returns-in_ok-offset-in-Width32
 unfolding fixed_point_of
-returns-in-Done-parse_i64 c = search points depth 20
+returns-in_ok-offset-in-Width32 c = search points depth 20
 
-pub returns-in-Need-parse_i64 : goal.returns-in-Need-parse_i64
+pub returns-in_ok-offset-in-Width64 : goal.returns-in_ok-offset-in-Width64
 unfolding fixed_point_of
-returns-in-Need-parse_i64 c = search points depth 20
+returns-in_ok-offset-in-Width64 c = search points depth 20

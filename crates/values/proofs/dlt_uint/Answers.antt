@@ -4,38 +4,34 @@ use Rattle.values.specs.Value.{uint, unsigned_of}
 use Rattle.wire.specs.Number.{numeric}
 use Rattle.values.proofs.dlt_uint.Goals as goal
 
-pub returns-in-Done : goal.returns-in-Done
+pub returns-in_err-num-in-BitLength8 : goal.returns-in_err-num-in-BitLength8
 unfolding uint unsigned_of numeric
-returns-in-Done c = search uints depth 20
+returns-in_err-num-in-BitLength8 c = search uints depth 20
 
-pub returns-in-Need : goal.returns-in-Need
+pub returns-in_err-num-in-BitLength16 : goal.returns-in_err-num-in-BitLength16
 unfolding uint unsigned_of numeric
-returns-in-Need c = search uints depth 20
+returns-in_err-num-in-BitLength16 c = search uints depth 20
 
-pub returns-in-Done-parse_u16 : goal.returns-in-Done-parse_u16
+pub returns-in_err-num-in-BitLength32 : goal.returns-in_err-num-in-BitLength32
 unfolding uint unsigned_of numeric
-returns-in-Done-parse_u16 c = search uints depth 20
+returns-in_err-num-in-BitLength32 c = search uints depth 20
 
-pub returns-in-Need-parse_u16 : goal.returns-in-Need-parse_u16
+pub returns-in_err-num-in-BitLength64 : goal.returns-in_err-num-in-BitLength64
 unfolding uint unsigned_of numeric
-returns-in-Need-parse_u16 c = search uints depth 20
+returns-in_err-num-in-BitLength64 c = search uints depth 20
 
-pub returns-in-Done-parse_u32 : goal.returns-in-Done-parse_u32
+pub returns-in_ok-num-in-BitLength8 : goal.returns-in_ok-num-in-BitLength8
 unfolding uint unsigned_of numeric
-returns-in-Done-parse_u32 c = search uints depth 20
+returns-in_ok-num-in-BitLength8 c = search uints depth 20
 
-pub returns-in-Need-parse_u32 : goal.returns-in-Need-parse_u32
+pub returns-in_ok-num-in-BitLength16 : goal.returns-in_ok-num-in-BitLength16
 unfolding uint unsigned_of numeric
-returns-in-Need-parse_u32 c = search uints depth 20
+returns-in_ok-num-in-BitLength16 c = search uints depth 20
 
-pub returns-in-Done-parse_u64 : goal.returns-in-Done-parse_u64
+pub returns-in_ok-num-in-BitLength32 : goal.returns-in_ok-num-in-BitLength32
 unfolding uint unsigned_of numeric
-returns-in-Done-parse_u64 c = search uints depth 20
+returns-in_ok-num-in-BitLength32 c = search uints depth 20
 
-pub returns-in-Need-parse_u64 : goal.returns-in-Need-parse_u64
+pub returns-in_ok-num-in-BitLength64 : goal.returns-in_ok-num-in-BitLength64
 unfolding uint unsigned_of numeric
-returns-in-Need-parse_u64 c = search uints depth 20
-
-pub returns-in-BitLength128 : goal.returns-in-BitLength128
-unfolding uint unsigned_of numeric
-returns-in-BitLength128 c = search uints depth 20
+returns-in_ok-num-in-BitLength64 c = search uints depth 20

@@ -2,8 +2,8 @@
 use Rattle.values.proofs.Reading.{signs}
 use Rattle.values.proofs.wide_sint.Goals as goal
 
-pub returns-in-Done : goal.returns-in-Done
-returns-in-Done c = search signs depth 20
+pub returns-in_err-num : goal.returns-in_err-num
+returns-in_err-num c = search signs depth 20
 
-pub returns-in-Need : goal.returns-in-Need
-returns-in-Need c = search signs depth 20
+pub returns : goal.returns
+returns c = search signs depth 20

@@ -2,8 +2,8 @@
 use Rattle.values.proofs.Reading.{uints}
 use Rattle.values.proofs.wide_uint.Goals as goal
 
-pub returns-in-Done : goal.returns-in-Done
-returns-in-Done c = search uints depth 20
+pub returns-in_err-whole : goal.returns-in_err-whole
+returns-in_err-whole c = search uints depth 20
 
-pub returns-in-Need : goal.returns-in-Need
-returns-in-Need c = search uints depth 20
+pub returns : goal.returns
+returns c = search uints depth 20

@@ -3,17 +3,13 @@ use Rattle.arguments.proofs.Reading.{arguments-reading}
 use Rattle.cursor.specs.Cursor.{turn}
 use Rattle.cursor.proofs.Cursor.next.Goals as goal
 
-pub returns-in-Need : goal.returns-in-Need
+pub returns-in_err-item : goal.returns-in_err-item
 unfolding turn
-returns-in-Need c = search arguments-reading depth 20
+returns-in_err-item c = search arguments-reading depth 20
 
-pub returns-in-Hickup : goal.returns-in-Hickup
+pub returns-in_ok-item : goal.returns-in_ok-item
 unfolding turn
-returns-in-Hickup c = search arguments-reading depth 20
-
-pub returns-in-Done : goal.returns-in-Done
-unfolding turn
-returns-in-Done c = search arguments-reading depth 20
+returns-in_ok-item c = search arguments-reading depth 20
 
 pub returns-else-self-ge1 : goal.returns-else-self-ge1
 unfolding turn

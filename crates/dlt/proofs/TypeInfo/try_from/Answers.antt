@@ -3,10 +3,10 @@ use Rattle.dlt.proofs.Reading.{dlt-reading}
 use Rattle.dlt.specs.TypeInfoWord.{type_info_of_lem}
 use Rattle.dlt.proofs.TypeInfo.try_from.Goals as goal
 
-pub returns-in-Present : goal.returns-in-Present
+pub returns-in-Some : goal.returns-in-Some
 unfolding type_info_of_lem
-returns-in-Present c = rw c.coding_of-coding.ensures (search dlt-reading depth 20)
+returns-in-Some c = rw c.coding_of-coding.ensures (search dlt-reading depth 20)
 
-pub returns-in-Absent : goal.returns-in-Absent
+pub returns-in-None : goal.returns-in-None
 unfolding type_info_of_lem
-returns-in-Absent c = search dlt-reading depth 20
+returns-in-None c = search dlt-reading depth 20

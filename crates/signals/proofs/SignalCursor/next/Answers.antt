@@ -3,13 +3,13 @@ use Rattle.signals.proofs.Reading.{signals-reading}
 use Rattle.signals.specs.Signals.{signal_turn}
 use Rattle.signals.proofs.SignalCursor.next.Goals as goal
 
-pub returns-in-Hickup : goal.returns-in-Hickup
+pub returns-in_err-item : goal.returns-in_err-item
 unfolding signal_turn
-returns-in-Hickup c = search signals-reading depth 20
+returns-in_err-item c = search signals-reading depth 20
 
-pub returns-in-Done : goal.returns-in-Done
+pub returns-in_ok-item : goal.returns-in_ok-item
 unfolding signal_turn
-returns-in-Done c = search signals-reading depth 20
+returns-in_ok-item c = search signals-reading depth 20
 
 pub returns-else-i-words : goal.returns-else-i-words
 unfolding signal_turn
