@@ -36,22 +36,21 @@ pub fn answer(words: &[&[u8]], body: &mut [u8], out: &mut Out) -> Option<()> {
     if MOST < cap {
         return None;
     }
-    called(s, f, state, 4 * cap as usize, limit, out);
+    let mut cells = table_room();
+    let table = cells.get_mut(..4 * cap as usize)?;
+    called(s, f, state, table, limit, out);
     Some(())
 }
 
-// The call over a table of `size` numbers. Without a limit it takes as many entries as the table holds.
-fn called(s: &[u8], f: &[u8], state: State, size: usize, limit: Option<u64>, out: &mut Out)
-    requires { size ≤ 16384 }
-{
-    let mut table = table_room();
+// The call over a table. Without a limit it takes as many entries as the table holds.
+fn called(s: &[u8], f: &[u8], state: State, table: &mut [u64], limit: Option<u64>, out: &mut Out) {
     let most = limit.unwrap_or(u64::MAX) as usize;
-    let got = index::index(s, f, state, &mut table[..size], most);
+    let got = index::index(s, f, state, table, most);
     ending(out, got.end, got.state);
     if limit.is_some() {
         out.labelled(b" taken=", got.taken);
     }
-    entries(out, &table, state.used, got.state.used);
+    entries(out, table, state.used, got.state.used);
 }
 
 // The number of an end.
