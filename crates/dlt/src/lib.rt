@@ -2,7 +2,7 @@
 // headers' types stand in the crates headertype and messageinfo and are handed on, so that a user of this crate has them all.
 // Copyright 2021 by Accenture ESR. Ported under the Apache License 2.0: see NOTICE.
 //
-// A String or a Vec is a range of the caller's bytes; a String says why it ended. An Option is an enum for each type. A bit is read by `/` and `%`.
+// A String or a Vec is a range of the caller's bytes; a String says why it ended. A bit is read by `/` and `%`.
 #![tactic(auto)]
 
 ghost use Rattle.std.specs.Prelude.{◌≡◌, ◌%◌};

@@ -1,7 +1,7 @@
 // The part of src/dlt.rs of dlt-core 0.20.2 on the storage and the standard header: their types, the header type byte, the lengths of the headers.
 // Copyright 2021 by Accenture ESR. Ported under the Apache License 2.0: see NOTICE.
 //
-// An identifier is a range of the caller's bytes, and why it ended. An Option is an enum for each type. A bit is read by `/` and `%`.
+// An identifier is a range of the caller's bytes, and why it ended. A bit is read by `/` and `%`.
 #![tactic(auto)]
 
 ghost use Rattle.std.specs.Prelude.{◌≡◌, ◌≤◌};
