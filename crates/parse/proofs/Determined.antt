@@ -9,6 +9,10 @@ use Rattle.parse.specs.Message.Answer.{bad_filter, retired_tag, answered}
 use Rattle.parse.specs.Refusal.{refusal_ans}
 use Rattle.parse.specs.declared.Refusal.{Refusal}
 
+-- what is had back from its answer is fixed by it: two that stand for one answer are the same
+pub judged_once : {A R : Type 0} (ans : R → Answer A) (back : Answer A → R) → ((r : R) → back (ans r) ≡ r) → {r r' : R} {x : Answer A} → ans r ≡ x → ans r' ≡ x → r ≡ r'
+judged_once ans back again {r} {r'} e f = sym (again r) ∙ ap back (e ∙ sym f) ∙ again r'
+
 module _ {A : Type 0} where
   -- a result, had back from the answer
   abbrev refused : Answer A → Result (Got A) Refusal
@@ -29,4 +33,4 @@ module _ {A : Type 0} where
 
   -- of every call that is given a filter's bytes
   pub refusal_determined : {r r' : Result (Got A) Refusal} {x : Answer A} → refusal_ans r ≡ x → refusal_ans r' ≡ x → r ≡ r'
-  refusal_determined {r} {r'} e f = sym (refusal_back r) ∙ ap refused (e ∙ sym f) ∙ refusal_back r'
+  refusal_determined = judged_once refusal_ans refused refusal_back

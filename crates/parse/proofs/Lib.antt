@@ -1,3 +1,4 @@
 pub mod Reading
 pub mod Determined
 pub mod Nothing
+mod Handed
