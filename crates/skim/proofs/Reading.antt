@@ -7,22 +7,23 @@ use mathlib.Core.List.{List}
 use lib.ListN.{length}
 use lib.Dec.{eqb}
 use borrow.Author.Tests.{eq-eqb, ne_eqb}
-use Rattle.wire.specs.Answer.{Ans}
+use Rattle.wire.specs.Answer.{Ans, Parser}
 use Rattle.wire.specs.Answer.Ans.{done, need, hickup}
 use Rattle.wire.specs.Parser.{refuse, choose, ◌>>=◌}
-use Rattle.wire.proofs.Step.{asking_done, fixed_done, fixed_need}
-use Rattle.wire.proofs.Reading.{took, lacked, reading}
+use Rattle.wire.proofs.Step.{asking_done, asking_need, fixed_done, fixed_need}
+use Rattle.wire.proofs.Reading.{by_done, by_need, reading}
 use Rattle.wire.specs.declared.Got.{Got}
 use Rattle.wire.specs.declared.Need.{Need}
 use Rattle.wire.specs.declared.Text.{Text}
-use Rattle.std.specs.Prelude.{Result, Err}
+use Rattle.std.specs.Prelude.{Result, Ok, Err, IsErr, IsErrAnd}
+use Rattle.std.proofs.lemmas.Bool.{false≢true}
 use Rattle.std.specs.Result.{result_from_control_flow}
 use Rattle.std.proofs.Common.{Continue, Break}
 use Rattle.wire.specs.Number.{number}
 use Rattle.strings.specs.Text.{text, text_need}
 use Rattle.headertype.specs.Bits.{flag, either}
 use Rattle.arguments.specs.Argument.{argument}
-use Rattle.skim.specs.Skim.{passed, run, skim_text_of, skim_bool_of, skim_string_of, skim_raw_of, bytes_of, skim_float_of, skim_number_of, skim_bits, skim_word_of}
+use Rattle.skim.specs.Skim.{skim_ans, passed, run, skim_text_of, skim_bool_of, skim_string_of, skim_raw_of, bytes_of, skim_float_of, skim_number_of, skim_bits, skim_word_of}
 use Rattle.skim.proofs.Same.{text_skims, skim_same}
 use Rattle.skim.proofs.Words.{word_same}
 use Rattle.wire.specs.Answers.{need_ans}
@@ -37,17 +38,55 @@ module _ (n : ℕ) (s : List ℕ) (at l : ℕ) (is-left : l ≡ length s - at) w
   unfolding run
   run_need h = rw is-left (sym (fixed_need n _ s at (rw (← is-left) h)))
 
+  -- m is what it was told to need
+  pub run_told : (m : Need) → m.0 ≡ n - l → l < n → skim_ans (Err m) ≡ run n s at
+  run_told m e h = ap need e ∙ run_need h
+
   pub text_there : n ≤ l → done tt (at + n) ≡ skim_text_of n s at
   unfolding skim_text_of
   text_there h = sym (asking_done n (text_need n) _ s at (rw (← is-left) h))
 
 -- ---- r is what the string reader gave
-module _ (n : ℕ) (s : List ℕ) (at : ℕ) (r : Result (Got Text) Need) (c : _) (e : need_ans r ≡ text n s at) (t : r ≡ result_from_control_flow c) where
-  pub text_read : (g : Got Text) → c ≡ Continue g → done tt g.next ≡ skim_text_of n s at
-  text_read g q = ap passed (took (text n s at) r c e t g q) ∙ text_skims n s at
+module _ (n : ℕ) (s : List ℕ) (at : ℕ) (r : Result (Got Text) Need) (e : need_ans r ≡ text n s at) where
+  pub text_read : (g : Got Text) → r ≡ Ok g → done tt g.next ≡ skim_text_of n s at
+  text_read g q = ap passed (ap need_ans (sym q) ∙ e) ∙ text_skims n s at
 
-  pub text_lacks : (m : _) (x : Ans Unit) → c ≡ Break m → x ≡ need_ans {A = Unit} (Err m.0) → x ≡ skim_text_of n s at
-  text_lacks m x q h = h ∙ ap passed (lacked (text n s at) r c e t m q) ∙ text_skims n s at
+  pub text_lacks : (m : Need) → r ≡ Err m → need m.0 ≡ skim_text_of n s at
+  text_lacks m q = ap passed (ap need_ans (sym q) ∙ e) ∙ text_skims n s at
+
+  -- which is no text where bytes lack
+  pub text_waits : (g : Got Text) → length s - at < n → r ≡ Ok g → ⊥
+  unfolding text
+  text_waits g h q = is_need (asking_need n (text_need n) _ s at h) (ap need_ans (sym q) ∙ e)
+    where
+      is_need : {x : Ans Text} {m : ℕ} → x ≡ need m → done g.v g.next ≡ x → ⊥
+      is_need y z = let w : ◌≡◌ {A = Bool} true false = cc in false≢true (sym w)
+
+-- m is what such a text's need was told to be
+pub text_told : (n : ℕ) (s : List ℕ) (at : ℕ) (m : Need) → need m.0 ≡ skim_text_of n s at → skim_ans (Err m) ≡ skim_text_of n s at
+text_told n s at m e = e
+
+-- ---- a rule that is passed and refuses nothing
+module _ {B : Type 0} (p : Parser Unit) (k : Unit → Parser B) (s : List ℕ) (at : ℕ) where
+  pub step_skim : (r : Result ℕ Need) (f : _) (next : ℕ) (x : Ans B) → skim_ans r ≡ p s at → r ≡ result_from_control_flow f → f ≡ Continue next
+      → x ≡ k tt s next → x ≡ (p >>= k) s at
+  step_skim r f next x e q t h = by_done p k s at tt next x (ap skim_ans (sym (q ∙ ap result_from_control_flow t)) ∙ e) h
+
+  pub end_skim : (r : Result ℕ Need) (f : _) (n : _) (x : Ans B) → skim_ans r ≡ p s at → r ≡ result_from_control_flow f → f ≡ Break n
+      → x ≡ need_ans {A = B} (Err n.0) → x ≡ (p >>= k) s at
+  end_skim r f n x e q t h = h ∙ by_need p k s at n.0.0 (ap skim_ans (sym (q ∙ ap result_from_control_flow t)) ∙ e)
+
+-- the last of a rule: `?` takes where it ends, or hands its need on
+module _ (x : Ans Unit) (r : Result ℕ Need) (f : _) (e : skim_ans r ≡ x) (q : r ≡ result_from_control_flow f) where
+  pub last_skim : (next : ℕ) → f ≡ Continue next → done tt next ≡ x
+  last_skim next t = ap skim_ans (sym (q ∙ ap result_from_control_flow t)) ∙ e
+
+  pub last_need : (n : _) (y : Ans Unit) → f ≡ Break n → y ≡ need_ans {A = Unit} (Err n.0) → y ≡ x
+  last_need n y t h = h ∙ ap skim_ans (sym (q ∙ ap result_from_control_flow t)) ∙ e
+
+pub need_skim : (r : Result ℕ Need) (n : Need) → IsErr r × IsErrAnd r (λ (m : Need). m ≡ n) → skim_ans r ≡ need_ans {A = Unit} (Err n)
+need_skim (Ok g) n e = absurd (false≢true e.0)
+need_skim (Err m) n e = ap (λ (m : Need). skim_ans (Err m)) e.1
 
 either_one : (a b : Bool) → b ≡ true → either a b ≡ true
 either_one true b e = refl
@@ -95,4 +134,4 @@ module _ (big : Bool) (word : ℕ) (s : List ℕ) (at : ℕ) where
 pub by_word : (big : Bool) (s : List ℕ) (at : ℕ) (x : Ans Unit) → x ≡ (number big 4 >>= (λ w. skim_word_of big w)) s at → x ≡ passed (argument big s at)
 by_word big s at x e = e ∙ sym (word_same big s at) ∙ sym (skim_same big s at)
 
-pub ruleset skim-reading = (reading, by_word, run_done, run_need, text_there, text_read, text_lacks, one_of, neither, eq-eqb, ne_eqb, word_bool, word_number, word_float, word_string, word_raw)
+pub ruleset skim-reading = (reading, step_skim, end_skim, last_skim, last_need, need_skim, by_word, run_done, run_need, run_told, text_there, text_read, text_lacks, text_told, one_of, neither, eq-eqb, ne_eqb, word_bool, word_number, word_float, word_string, word_raw)

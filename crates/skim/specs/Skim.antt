@@ -1,7 +1,8 @@
 -- One argument passed. These rules are document 01's of an argument with nothing kept: proofs/Same.antt has the theorem, `skim-same`.
-use Rattle.std.specs.Prelude.{ℕ, ◌+◌, ◌/◌, ◌%◌, Bool, eqb}
+use Rattle.std.specs.Prelude.{ℕ, ◌+◌, ◌/◌, ◌%◌, Bool, eqb, Result, Ok, Err}
 use Rattle.wire.specs.Answer.{Ans, Parser}
 use Rattle.wire.specs.Answer.Ans.{done, need, hickup, broken}
+use Rattle.wire.specs.declared.Need.{Need}
 use Rattle.wire.specs.Parser.{pick, ret, refuse, choose, asking, fixed, ◌>>=◌}
 use Rattle.wire.specs.Number.{number}
 use Rattle.strings.specs.Text.{text_need}
@@ -16,6 +17,11 @@ passed (done a b) = done tt b
 passed (need n) = need n
 passed (hickup r) = hickup r
 passed broken = broken
+
+-- the answer that a result stands for where nothing is refused, as behind a type info word that is accepted
+abbrev pub skim_ans : Result ℕ Need → Ans Unit
+skim_ans (Ok next) = done tt next
+skim_ans (Err n) = need n.0
 
 -- n bytes, whatever they are
 unfoldable pub run : ℕ → Parser Unit

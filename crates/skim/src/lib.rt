@@ -1,41 +1,67 @@
 // One argument passed: where it ends, or why it can't be read, as `dlt_argument` of the crate arguments has it, but nothing of it is kept. A string's
 // bytes are not looked at where all of them are there: only their number matters. `dlt_message` goes by this, and hands out a cursor.
+//
+// What stands in functions of their own (`inline(never)`) is kept out of the loop over a message's arguments, which all else here is copied into:
+// numbers, and what is told where bytes lack (docs/DESIGN-PASS.md, "Speed"). No contract here depends on that.
 #![tactic(auto)]
 
-ghost use Rattle.std.specs.Prelude.{◌≡◌};
+ghost use Rattle.std.specs.Prelude.{◌≡◌, ◌-◌, ◌<◌, length};
 ghost use Rattle.arguments.specs.Argument.{argument};
-ghost use Rattle.skim.specs.Skim.{run, skim_text_of, skim_name_of, skim_texts_of, skim_names_of, skim_plain_of, skim_point_of, skim_scaled_of, skim_bool_of, skim_string_of, skim_raw_of, bytes_of, skim_whole_of, skim_float_of, skim_fixed_of, skim_number_of, skim_word_of, passed};
+ghost use Rattle.skim.specs.Skim.{skim_ans, run, skim_text_of, skim_name_of, skim_texts_of, skim_names_of, skim_plain_of, skim_point_of, skim_scaled_of, skim_bool_of, skim_string_of, skim_raw_of, bytes_of, skim_whole_of, skim_float_of, skim_fixed_of, skim_number_of, skim_word_of, passed};
+ghost use Rattle.wire.specs.Answer.Ans.{need};
 ghost use Rattle.wire.specs.Answers.{passed_ans};
 
-use wire::{Reason, Stop};
+use wire::{Need, Reason, Stop};
 
 // `n` bytes, whatever they are.
-fn skim_run(s: &[u8], at: usize, n: usize) -> Result<usize, Stop>
-    ensures { passed_ans result ≡ run n s.now at }
+fn skim_run(s: &[u8], at: usize, n: usize) -> Result<usize, Need>
+    ensures { skim_ans result ≡ run n s.now at }
 {
     let rest = wire::left(s, at);
     if n <= rest {
         Ok(at + n)
     } else {
-        Err(Stop::Need(n - rest))
+        Err(run_need(n, rest))
     }
+}
+
+// What they need where no more than `rest` are left.
+#[cold]
+#[inline(never)]
+fn run_need(n: usize, rest: usize) -> Need
+    requires { rest < n }
+    ensures { result.0 ≡ n - rest }
+{
+    Need(n - rest)
 }
 
 // A string of a size: only where bytes lack does it matter which they are.
-fn skim_text(s: &[u8], at: usize, size: usize) -> Result<usize, Stop>
-    ensures { passed_ans result ≡ skim_text_of size s.now at }
+fn skim_text(s: &[u8], at: usize, size: usize) -> Result<usize, Need>
+    ensures { skim_ans result ≡ skim_text_of size s.now at }
 {
-    let rest = wire::left(s, at);
-    if size <= rest {
-        return Ok(at + size);
+    if size <= wire::left(s, at) {
+        Ok(at + size)
+    } else {
+        Err(text_need(s, at, size))
     }
-    let all = strings::dlt_zero_terminated_string_intern(s, at, size)?;
-    Ok(all.next)
+}
+
+// What a string needs whose bytes aren't all there, as the reading of its text tells.
+#[cold]
+#[inline(never)]
+fn text_need(s: &[u8], at: usize, size: usize) -> Need
+    requires { length s.now - at < size }
+    ensures { need result.0 ≡ skim_text_of size s.now at }
+{
+    match strings::dlt_zero_terminated_string_intern(s, at, size) {
+        Ok(_) => unreachable!(),
+        Err(lack) => lack,
+    }
 }
 
 // A name with its size, if there is variable info.
-fn skim_name(s: &[u8], at: usize, info: bool, big: bool) -> Result<usize, Stop>
-    ensures { passed_ans result ≡ skim_name_of info big s.now at }
+fn skim_name(s: &[u8], at: usize, info: bool, big: bool) -> Result<usize, Need>
+    ensures { skim_ans result ≡ skim_name_of info big s.now at }
 {
     if info {
         let size = wire::parse_u16(s, at, big)?;
@@ -46,16 +72,16 @@ fn skim_name(s: &[u8], at: usize, info: bool, big: bool) -> Result<usize, Stop>
 }
 
 // A name and a unit of these sizes.
-fn skim_texts(s: &[u8], at: usize, name: usize, unit: usize) -> Result<usize, Stop>
-    ensures { passed_ans result ≡ skim_texts_of name unit s.now at }
+fn skim_texts(s: &[u8], at: usize, name: usize, unit: usize) -> Result<usize, Need>
+    ensures { skim_ans result ≡ skim_texts_of name unit s.now at }
 {
     let next = skim_text(s, at, name)?;
     skim_text(s, next, unit)
 }
 
 // Name size, unit size, name, unit, if there is variable info.
-fn skim_names(s: &[u8], at: usize, info: bool, big: bool) -> Result<usize, Stop>
-    ensures { passed_ans result ≡ skim_names_of info big s.now at }
+fn skim_names(s: &[u8], at: usize, info: bool, big: bool) -> Result<usize, Need>
+    ensures { skim_ans result ≡ skim_names_of info big s.now at }
 {
     if info {
         let name = wire::parse_u16(s, at, big)?;
@@ -67,24 +93,26 @@ fn skim_names(s: &[u8], at: usize, info: bool, big: bool) -> Result<usize, Stop>
 }
 
 // An integer or a float of `n` bytes: name and unit, value.
-fn skim_plain(s: &[u8], at: usize, info: bool, n: usize, big: bool) -> Result<usize, Stop>
-    ensures { passed_ans result ≡ skim_plain_of info n big s.now at }
+#[inline(never)]
+fn skim_plain(s: &[u8], at: usize, info: bool, n: usize, big: bool) -> Result<usize, Need>
+    ensures { skim_ans result ≡ skim_plain_of info n big s.now at }
 {
     let next = skim_names(s, at, info, big)?;
     skim_run(s, next, n)
 }
 
 // A quantization, and an offset of `n` bytes.
-fn skim_point(s: &[u8], at: usize, n: usize) -> Result<usize, Stop>
-    ensures { passed_ans result ≡ skim_point_of n s.now at }
+fn skim_point(s: &[u8], at: usize, n: usize) -> Result<usize, Need>
+    ensures { skim_ans result ≡ skim_point_of n s.now at }
 {
     let next = skim_run(s, at, 4)?;
     skim_run(s, next, n)
 }
 
 // A fixed-point number: name and unit, quantization and offset, value.
-fn skim_scaled(s: &[u8], at: usize, info: bool, n: usize, big: bool) -> Result<usize, Stop>
-    ensures { passed_ans result ≡ skim_scaled_of info n big s.now at }
+#[inline(never)]
+fn skim_scaled(s: &[u8], at: usize, info: bool, n: usize, big: bool) -> Result<usize, Need>
+    ensures { skim_ans result ≡ skim_scaled_of info n big s.now at }
 {
     let names = skim_names(s, at, info, big)?;
     let next = skim_point(s, names, n)?;
@@ -92,16 +120,16 @@ fn skim_scaled(s: &[u8], at: usize, info: bool, n: usize, big: bool) -> Result<u
 }
 
 // A bool: name, value.
-fn skim_bool(s: &[u8], at: usize, info: bool, big: bool) -> Result<usize, Stop>
-    ensures { passed_ans result ≡ skim_bool_of info big s.now at }
+fn skim_bool(s: &[u8], at: usize, info: bool, big: bool) -> Result<usize, Need>
+    ensures { skim_ans result ≡ skim_bool_of info big s.now at }
 {
     let next = skim_name(s, at, info, big)?;
     skim_run(s, next, 1)
 }
 
 // A string: value size, name, value.
-fn skim_string(s: &[u8], at: usize, info: bool, big: bool) -> Result<usize, Stop>
-    ensures { passed_ans result ≡ skim_string_of info big s.now at }
+fn skim_string(s: &[u8], at: usize, info: bool, big: bool) -> Result<usize, Need>
+    ensures { skim_ans result ≡ skim_string_of info big s.now at }
 {
     let size = wire::parse_u16(s, at, big)?;
     let next = skim_name(s, size.next, info, big)?;
@@ -109,8 +137,8 @@ fn skim_string(s: &[u8], at: usize, info: bool, big: bool) -> Result<usize, Stop
 }
 
 // Raw bytes: value size, name, value.
-fn skim_raw(s: &[u8], at: usize, info: bool, big: bool) -> Result<usize, Stop>
-    ensures { passed_ans result ≡ skim_raw_of info big s.now at }
+fn skim_raw(s: &[u8], at: usize, info: bool, big: bool) -> Result<usize, Need>
+    ensures { skim_ans result ≡ skim_raw_of info big s.now at }
 {
     let size = wire::parse_u16(s, at, big)?;
     let next = skim_name(s, size.next, info, big)?;
@@ -137,7 +165,7 @@ fn skim_whole(s: &[u8], at: usize, info: bool, n: usize, big: bool) -> Result<us
 {
     match n {
         0 => Err(Stop::Hickup(Reason::TypeInfo)),
-        _ => skim_plain(s, at, info, n, big),
+        _ => Ok(skim_plain(s, at, info, n, big)?),
     }
 }
 
@@ -146,7 +174,7 @@ fn skim_float(s: &[u8], at: usize, info: bool, n: usize, big: bool) -> Result<us
     ensures { passed_ans result ≡ skim_float_of info n big s.now at }
 {
     match n {
-        4 | 8 => skim_plain(s, at, info, n, big),
+        4 | 8 => Ok(skim_plain(s, at, info, n, big)?),
         _ => Err(Stop::Hickup(Reason::TypeInfo)),
     }
 }
@@ -156,7 +184,7 @@ fn skim_fixed(s: &[u8], at: usize, info: bool, n: usize, big: bool) -> Result<us
     ensures { passed_ans result ≡ skim_fixed_of info n big s.now at }
 {
     match n {
-        4 | 8 => skim_scaled(s, at, info, n, big),
+        4 | 8 => Ok(skim_scaled(s, at, info, n, big)?),
         _ => Err(Stop::Hickup(Reason::TypeInfo)),
     }
 }
@@ -185,11 +213,11 @@ fn skim_word(s: &[u8], at: usize, word: u32, big: bool) -> Result<usize, Stop>
 {
     let info = word / 2048 % 2 == 1;
     match word / 16 % 128 {
-        1 => skim_bool(s, at, info, big),
+        1 => Ok(skim_bool(s, at, info, big)?),
         2 | 4 => skim_number(s, at, info, word / 4096 % 2 == 1, bytes_of(word % 16), big),
         8 => skim_float(s, at, info, bytes_of(word % 16), big),
-        32 => skim_string(s, at, info, big),
-        64 => skim_raw(s, at, info, big),
+        32 => Ok(skim_string(s, at, info, big)?),
+        64 => Ok(skim_raw(s, at, info, big)?),
         _ => Err(Stop::Hickup(Reason::TypeInfo)),
     }
 }

@@ -3,9 +3,13 @@ use Rattle.skim.proofs.Reading.{skim-reading}
 use Rattle.skim.specs.Skim.{skim_float_of}
 use Rattle.skim.proofs.skim_float.Goals as goal
 
-pub returns-in-4 : goal.returns-in-4
+pub returns-in_err-skim_plain-in-4 : goal.returns-in_err-skim_plain-in-4
 unfolding skim_float_of
-returns-in-4 c = search skim-reading depth 20
+returns-in_err-skim_plain-in-4 c = search skim-reading depth 20
+
+pub returns-in_ok-skim_plain-in-4 : goal.returns-in_ok-skim_plain-in-4
+unfolding skim_float_of
+returns-in_ok-skim_plain-in-4 c = search skim-reading depth 20
 
 pub returns-in_default : goal.returns-in_default
 unfolding skim_float_of

@@ -2,11 +2,8 @@
 use Rattle.skim.proofs.Reading.{skim-reading}
 use Rattle.skim.proofs.skim_text.Goals as goal
 
-pub returns-then-size-rest : goal.returns-then-size-rest
-returns-then-size-rest c = search skim-reading depth 20
+pub returns-then-size-left : goal.returns-then-size-left
+returns-then-size-left c = search skim-reading depth 20
 
-pub returns-in_err-all : goal.returns-in_err-all
-returns-in_err-all c = search skim-reading depth 20
-
-pub returns : goal.returns
-returns c = search skim-reading depth 20
+pub returns-else-size-left : goal.returns-else-size-left
+returns-else-size-left c = search skim-reading depth 20

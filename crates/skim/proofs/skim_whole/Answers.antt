@@ -7,6 +7,10 @@ pub returns-in-0 : goal.returns-in-0
 unfolding skim_whole_of
 returns-in-0 c = search skim-reading depth 20
 
-pub returns-in_default : goal.returns-in_default
+pub returns-in_err-skim_plain-in_default : goal.returns-in_err-skim_plain-in_default
 unfolding skim_whole_of
-returns-in_default c = search skim-reading depth 20
+returns-in_err-skim_plain-in_default c = search skim-reading depth 20
+
+pub returns-in_ok-skim_plain-in_default : goal.returns-in_ok-skim_plain-in_default
+unfolding skim_whole_of
+returns-in_ok-skim_plain-in_default c = search skim-reading depth 20
